@@ -1,0 +1,7 @@
+pub mod Words
+pub mod Pattern
+pub mod Records
+pub mod Output
+pub mod Meaning
+pub mod Verdict
+pub mod Pieces

@@ -1,0 +1,14 @@
+//! The top call: its words, its pattern file, and the run over its input.
+#![tactic(auto)]
+
+mod output;
+mod pattern;
+mod program;
+mod run;
+mod words;
+
+pub use cep_session::{RowCause, Status, number, tell};
+pub use program::cep;
+
+#[cfg(test)]
+mod tests;

@@ -1,0 +1,22 @@
+//! What lies outside the program: where its bytes come from and go to, each with a count of its faults.
+#![tactic(auto)]
+
+mod files;
+mod memory;
+mod named;
+mod sink;
+mod source;
+mod standard;
+mod stored;
+#[cfg(test)]
+mod tests;
+mod writes;
+
+pub use files::{Files, FilesFault};
+pub use memory::{MemorySink, MemorySource};
+pub use named::{Named, NamedList};
+pub use sink::{Failed, Sink};
+pub use source::{Source, Take};
+pub use standard::{DiskFiles, StdSink, StdSource};
+pub use stored::MemoryFiles;
+pub use writes::write_all;

@@ -1,0 +1,4 @@
+pub mod Endings
+pub mod Laws
+pub mod Steps
+pub mod Told

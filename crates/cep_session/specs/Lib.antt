@@ -1,0 +1,9 @@
+pub mod Ending
+pub mod Handling
+pub mod Meaning
+pub mod Notes
+pub mod Number
+pub mod Outcome
+pub mod Progress
+pub mod Rows
+pub mod Session

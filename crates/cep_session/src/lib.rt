@@ -1,0 +1,19 @@
+//! Runs over a stream: lines in, text out, and how each run ends.
+#![tactic(auto)]
+
+mod ending;
+mod handler;
+mod notes;
+mod rows;
+mod session;
+mod status;
+mod stream;
+#[cfg(test)]
+mod tests;
+
+pub use cep_rows::RowCause;
+pub use ending::Ending;
+pub use handler::{Handler, LineFault};
+pub use notes::tell;
+pub use status::{Status, number};
+pub use stream::run;

@@ -1,0 +1,91 @@
+ghost use Rattle.std.specs.Prelude.{◌≡◌, ◌↔◌, ◌+◌, ◌<◌, ◌≤◌, List, ℕ, length, IsTrue, OnOk};
+ghost use Rattle.cep_outside.specs.Outside.{Rose};
+ghost use Rattle.cep_session.specs.Meaning.{Meaning};
+ghost use Rattle.cep_session.specs.Rows.{Stands, IsTaken, IsFinished};
+
+use crate::{Ending, Handler, LineFault};
+use cep_outside::{Sink, write_all};
+use cep_rows::{Line, RowCause};
+
+/// A handler, and how many lines it has handled of how many that are allowed.
+#[derive(Drop)]
+pub(crate) struct Rows<H> {
+    pub(crate) handler: H,
+    pub(crate) handled: u32,
+    pub(crate) allowed: u32,
+}
+
+impl<H: Handler> Rows<H> {
+    pub(crate) fn is_full(&self) -> bool
+        ensures { IsTrue result ↔ (self.now.handled ≡ self.now.allowed) }
+    {
+        self.handled == self.allowed
+    }
+
+    /// The answer where the next line is too long.
+    pub(crate) fn too_long(&self) -> Ending
+        requires { self.now.handled < self.now.allowed }
+        ensures { (m : Meaning) (lines : List (List ℕ)) → Stands H.stands m lines self.now → result ≡ Ending.BadRow (self.now.handled + 1) m.too_long }
+    {
+        let cause = self.handler.too_long();
+        self.refused(cause)
+    }
+
+    // The answer where the next line is refused.
+    fn refused(&self, cause: RowCause) -> Ending
+        requires { self.now.handled < self.now.allowed }
+        ensures { result ≡ Ending.BadRow (self.now.handled + 1) cause }
+    {
+        let row = self.handled + 1;
+        Ending::BadRow { row, cause }
+    }
+
+    /// Handles one line more and writes the text that it causes. After an `Err` the run is over.
+    pub(crate) fn take<K: Sink>(&mut self, output: &mut K, line: &Line) -> Result<(), Ending>
+        requires short { length line.now ≤ 65536 }
+        requires room { self.old.handled < self.old.allowed }
+        requires ready { (m : Meaning) × (lines : List (List ℕ)) × Stands H.stands m lines self.old }
+        ensures taken { (m : Meaning) (lines : List (List ℕ)) → Stands H.stands m lines self.old
+            → IsTaken m lines line.now (λ now. Stands H.stands m now self.new) (K.taken output.old) (K.taken output.new) result }
+        ensures count { OnOk result (self.new.handled ≡ self.old.handled + 1) }
+        ensures allowed { self.new.allowed ≡ self.old.allowed }
+        ensures later { K.faults output.old ≤ K.faults output.new }
+        ensures cause { result ≡ Err Ending.WriteFault → Rose (K.faults output.old) (K.faults output.new) }
+    {
+        let text = match self.handler.line(line) {
+            Ok(text) => text,
+            Err(LineFault::NoMemory) => return Err(Ending::NoMemory),
+            Err(LineFault::Refused(cause)) => {
+                return Err(self.refused(cause));
+            }
+        };
+        self.handled += 1;
+        match write_all(output, text.as_slice()) {
+            Ok(()) => Ok(()),
+            Err(_) => Err(Ending::WriteFault),
+        }
+    }
+
+    /// Writes what is owed once the lines are all.
+    pub(crate) fn finish<K: Sink>(self, output: &mut K) -> Ending
+        requires { (m : Meaning) × (lines : List (List ℕ)) × Stands H.stands m lines self }
+        ensures finished { (m : Meaning) (lines : List (List ℕ)) → Stands H.stands m lines self
+            → IsFinished m lines (K.taken output.old) (K.taken output.new) result }
+        ensures later { K.faults output.old ≤ K.faults output.new }
+        ensures cause { result ≡ Ending.WriteFault → Rose (K.faults output.old) (K.faults output.new) }
+        ensures no_read { result ≡ Ending.ReadFault → ⊥ }
+    {
+        let Rows {
+            handler,
+            handled: _,
+            allowed: _,
+        } = self;
+        match handler.end() {
+            Ok(text) => match write_all(output, text.as_slice()) {
+                Ok(()) => Ending::Done,
+                Err(_) => Ending::WriteFault,
+            },
+            Err(_) => Ending::NoMemory,
+        }
+    }
+}
