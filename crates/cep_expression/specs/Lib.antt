@@ -1,0 +1,4 @@
+pub mod Terminal
+pub mod Grammar
+pub mod Reader
+pub mod Nests

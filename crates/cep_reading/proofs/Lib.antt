@@ -1,0 +1,9 @@
+pub mod Laws
+pub mod ManyLemmas
+pub mod Starts
+pub mod Cuts
+pub mod Quiet
+pub mod Links
+pub mod Exact
+pub mod Warns
+pub mod Gives

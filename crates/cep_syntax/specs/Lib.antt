@@ -1,0 +1,9 @@
+pub mod Terminal
+pub mod Grammar
+pub mod Links
+pub mod Reader
+pub mod Depth
+pub mod Reads
+pub mod Answer
+pub mod Whole
+pub mod WellFormed

@@ -1,0 +1,14 @@
+pub mod Chain
+pub mod Content
+pub mod Edges
+pub mod Entries
+pub mod Exact
+pub mod Facts
+pub mod Graph
+pub mod Link
+pub mod Lists
+pub mod Members
+pub mod Nodes
+pub mod Put
+pub mod Release
+pub mod Slots
