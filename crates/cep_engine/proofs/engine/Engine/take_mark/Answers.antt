@@ -1,0 +1,31 @@
+use Rattle.std.proofs.Common.{◌≡◌, sym, ◌∙◌, ap, subst, rules, to_z, of_z, w64, [], ◌∷◌, ◌++◌}
+use Rattle.std.specs.Prelude.{ℤ, Some, FitsSigned}
+use Rattle.std.proofs.lemmas.Int.{to_z-of_z}
+use Rattle.cep_event.specs.declared.record.Moment.TheVariants.{At}
+use Rattle.cep_plan.specs.Tick.{mark_tick}
+use Rattle.cep_engine.specs.Standing.{PartsStand, ComesLater}
+use Rattle.cep_engine.specs.State.{IsNotBefore}
+use Rattle.cep_engine.proofs.OpenLaws.{last_time-push}
+use Rattle.cep_engine.proofs.TimeLaws.{comes_later, behind_later}
+use Rattle.cep_engine.proofs.engine.Engine.take_mark.Goals as goal
+
+pub invariant_of-self-2 : goal.invariant_of-self-2
+invariant_of-self-2 c =
+    let fits : FitsSigned w64 c.args.time = search rules in
+    let time : ℤ = to_z w64 (of_z w64 c.args.time) in
+    let trip : time ≡ c.args.time = to_z-of_z w64 c.args.time fits in
+    let fresh = ap (λ v. v.spent) c.self.view_is ∙ c.requires.fresh in
+    let not_before : IsNotBefore c.self.inside.last time = subst (IsNotBefore c.self.inside.last) (sym trip) (subst (λ v. IsNotBefore v.last c.args.time) (sym c.self.view_is) c.requires.time) in
+    let behind = behind_later c.self.inside.runs.position c.self.inside.last c.self.inside.limits.starts time (c.self.invariant.2 fresh) not_before in
+    (c.self.invariant.0, c.self.invariant.1, (λ _. c.in_ok-made.ensures.behind time behind))
+
+pub returns-clause-stands : goal.returns-clause-stands
+returns-clause-stands c = λ ticks stands.
+    let fits : FitsSigned w64 c.args.time = search rules in
+    let trip : to_z w64 (of_z w64 c.args.time) ≡ c.args.time = to_z-of_z w64 c.args.time fits in
+    let parts = subst (λ v. PartsStand v.plan ticks v.runs v.limits) (sym c.self.view_is) stands.parts in
+    let later = subst (λ (t : ℤ). ComesLater ticks (At t)) (sym trip) (comes_later c.args.self.now.last ticks c.args.time stands.last c.requires.time) in
+    record {
+      parts = subst (λ (t : ℤ). PartsStand c.self.inside.plan (ticks ++ mark_tick (At t) ∷ []) c.take_mark.new.runs c.take_mark.new.limits) trip (c.in_ok-made.ensures.parts ticks parts later);
+      last = ap (λ (t : ℤ). Some (At t)) trip ∙ sym (last_time-push ticks (mark_tick (At c.args.time)));
+    }

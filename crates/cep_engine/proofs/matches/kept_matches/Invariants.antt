@@ -1,0 +1,9 @@
+-- The kept matches so far.
+use Rattle.std.proofs.Common.{◌≡◌, [], map}
+use Rattle.cep_plan.specs.declared.item.Item.TheVariants.{Match}
+use Rattle.cep_plan.specs.Skipping.{kept_after}
+use Rattle.cep_engine.specs.Small.{AreSmall}
+use Rattle.cep_engine.proofs.matches.kept_matches.Given as goal
+
+abbrev pub invariant-loop-list : goal.invariant-loop-list
+invariant-loop-list l = AreSmall l.fn.lists → (map Match l.found ≡ kept_after l.skip [] (map Match l.yielded)) × AreSmall l.found × AreSmall l.list-iterator.rest.items

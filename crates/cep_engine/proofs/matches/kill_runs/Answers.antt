@@ -1,0 +1,36 @@
+use Rattle.std.proofs.Common.{refl, sym, ◌∙◌, ap, subst, not, ◌&&◌, arith, ◌<◌, ◌-◌, ◌^◌, List}
+use Rattle.std.specs.List.{list_any, AllByRecursion as Each}
+use Rattle.std.proofs.lemmas.List.{take_all}
+use Rattle.cep_plan.specs.declared.item.Taken.{Taken}
+use Rattle.cep_plan.specs.declared.item.Item.TheVariants.{Match}
+use Rattle.cep_plan.specs.Skipping.{kills_start}
+use Rattle.std.specs.Prelude.{map}
+use Rattle.live_laws.specs.Starts.{item_kills_start}
+use Rattle.skip_strategy.specs.Range.{is_in}
+use Rattle.cep_engine.specs.Small.{AreSmall}
+use Rattle.cep_engine.proofs.LoopLaws.{Stands-same, Stands-more, and_true, any_match, Each-get}
+use Rattle.cep_engine.proofs.matches.kill_runs.Goals as goal
+
+pub loop-list-init : goal.loop-list-init
+loop-list-init c = ((λ small plan events starts stands. Stands-same plan events starts _ c.args.runs.now (λ p. sym (and_true (starts p))) stands), refl)
+
+pub loop-list-preserved : goal.loop-list-preserved
+loop-list-preserved c =
+    let items = c.as_slice-list-items.result.now in
+    let place = c.loop-list.list-index in
+    let x = c.list-item.result in
+    let Small = λ (l : List Taken). Each (λ (t : Taken). t.position < 2 ^ 32 - 1) l in (
+      (λ small plan events starts stands.
+          let all = subst AreSmall (sym c.as_slice-list-items.ensures) small in
+          let here = subst Small (sym c.list-item.is) (Each-get Small items place x c.loop-list-test.true all) in
+          Stands-more (λ list p. kills_start c.args.skip list p) plan events starts (is_in c.cut.result) c.kill_range.new.runs items place x c.list-item.is c.loop-list-test.true (c.cut.ensures.positions here)
+          (c.kill_range.ensures.runs plan events _ (c.loop-list.invariant.0 small plan events starts stands))),
+      c.kill_range.ensures.position ∙ c.loop-list.invariant.1,
+    )
+
+pub returns-clause-runs : goal.returns-clause-runs
+returns-clause-runs c = λ small plan events starts stands.
+    let items = c.as_slice-list-items.result.now in
+    Stands-same plan events _ (λ p. starts p && not (list_any (item_kills_start c.args.skip p) (map Match c.args.found.now))) c.loop-list.runs
+    (λ p. ap (λ b. starts p && not b) (ap (list_any (λ list. kills_start c.args.skip list p)) (take_all c.loop-list.list-index items (omega (arith, c.loop-list-test.false)) ∙ c.as_slice-list-items.ensures) ∙ sym (any_match (item_kills_start c.args.skip p) c.args.found.now)))
+    (c.loop-list.invariant.0 small plan events starts stands)

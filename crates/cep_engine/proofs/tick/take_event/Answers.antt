@@ -1,0 +1,100 @@
+use Rattle.std.proofs.Common.{◌≡◌, ℕ, ◌-◌, ◌^◌, sym, ◌∙◌, ap, subst, ◌<◌, ◌+◌, arith, rules, true, not, ◌&&◌, ◌==◌, length, [], ◌∷◌, ◌++◌, map, to_z, of_z, w64}
+use Rattle.std.specs.Prelude.{ℤ, int_le, filter, flat_map, FitsSigned}
+use Rattle.std.specs.List.{list_any, AllByRecursion as Each}
+use Rattle.std.proofs.lemmas.Int.{ints, to_z-of_z}
+use Rattle.cep_event.specs.declared.record.Moment.{Moment}
+use Rattle.cep_event.specs.declared.record.Moment.TheVariants.{At}
+use Rattle.cep_plan.specs.declared.item.Item.TheVariants.{Match, Timeout}
+use Rattle.cep_plan.specs.Entry.{taken_of}
+use Rattle.cep_plan.specs.Tick.{events_of}
+use Rattle.cep_plan.proofs.RisingLaws.{Each-append, Each-weaker}
+use Rattle.live_laws.specs.Starts.{item_kills_start, waiting_at}
+use Rattle.live_laws.proofs.MemberLaws.{Each-filter}
+use Rattle.run_step.specs.Runs.{Stands}
+use Rattle.time_limit.specs.declared.limits.Start.{Start}
+use Rattle.time_limit.specs.Limits.{Kept, limited, is_over}
+use Rattle.cep_engine.specs.Due.{due_among, left_among}
+use Rattle.cep_engine.specs.Standing.{open_after}
+use Rattle.cep_engine.proofs.OpenLaws.{limited-each}
+use Rattle.cep_engine.proofs.TickLaws.{saved_open}
+use Rattle.cep_engine.proofs.EventLaws.{is_open, runs_ready, matches_small, kept_at-event, PartsStand-event}
+use Rattle.cep_engine.proofs.tick.take_event.Goals as goal
+
+-- a start is below the position, and its time isn't above this one
+abbrev IsBehind : ℕ → ℤ → Start → Type 0
+IsBehind position time start = (start.position < position) × (int_le start.ts time ≡ true)
+
+not_above : (time : ℤ) → int_le time time ≡ true
+not_above time = grind (arith, ints)
+
+left_behind : (position : ℕ) (time : ℤ) (saved left : Kept) (now : Moment) → left ≡ record saved { starts = left_among saved.within now saved.starts } → Each (IsBehind position time) saved.starts → Each (IsBehind position time) left.starts
+left_behind position time saved left now is h =
+    subst (λ k. Each (IsBehind position time) k.starts) (sym is) (Each-filter (IsBehind position time) (λ s. not (is_over saved.within now s)) saved.starts h)
+
+added_behind : (position : ℕ) (time : ℤ) (left added : Kept) → added ≡ record left { starts = left.starts ++ limited left.within (record { position = position; ts = time } ∷ []) } → Each (IsBehind position time) left.starts → Each (IsBehind (position + 1) time) added.starts
+added_behind position time left added is h =
+    subst (λ k. Each (IsBehind (position + 1) time) k.starts) (sym is)
+    (Each-append (IsBehind (position + 1) time) left.starts (limited left.within (record { position = position; ts = time } ∷ []))
+    (Each-weaker (IsBehind position time) (IsBehind (position + 1) time) (λ s b. (omega (arith, b.0), b.1)) left.starts h)
+    (limited-each (IsBehind (position + 1) time) left.within (record { position = position; ts = time } ∷ []) ((omega arith, not_above time), tt)))
+
+pub add-requires : goal.add-requires
+add-requires c =
+    let event = c.args.event.now in
+    let fits : FitsSigned w64 event.ts = search rules in
+    let trip : to_z w64 (of_z w64 event.ts) ≡ event.ts = to_z-of_z w64 event.ts fits in
+    let all = left_behind c.args.runs.now.position event.ts c.args.limits.now c.time_out.new.limits (At (to_z w64 (of_z w64 event.ts))) c.in_ok-items.ensures.limits c.requires.behind in
+    subst (λ t. Each (IsBehind c.position-position.result t) c.time_out.new.limits.starts) (sym trip) (subst (λ n. Each (IsBehind n event.ts) c.time_out.new.limits.starts) (sym c.position-position.ensures) all)
+
+pub returns-clause-items : goal.returns-clause-items
+returns-clause-items c = λ ticks parts later limit.
+    let plan = c.args.plan.now in
+    let event = c.args.event.now in
+    let content = c.args.runs.now in
+    let saved = c.args.limits.now in
+    let fits : FitsSigned w64 event.ts = search rules in
+    let trip : to_z w64 (of_z w64 event.ts) ≡ event.ts = to_z-of_z w64 event.ts fits in
+    let left = subst (λ (t : ℤ). Stands plan (events_of ticks) (λ p. open_after plan ticks p && not (list_any (λ s. s == p) (due_among saved.within (At t) saved.starts))) c.time_out.new.runs) trip (c.in_ok-items.ensures.runs (events_of ticks) (open_after plan ticks) parts.runs) in
+    let ready = runs_ready plan ticks content saved parts event later limit c.time_out.new.runs left in
+    let lists = c.in_ok-lists.ensures.matches (events_of ticks) _ (is_open plan ticks content saved parts event later limit) ready in
+    let room : length (events_of ticks) < 2 ^ 32 - 1 = omega (arith, c.requires.room, parts.runs.0) in
+    let small = matches_small plan ticks content saved parts event later limit c.in_ok-lists.lists lists room in
+    let timeouts = c.in_ok-items.ensures.items (events_of ticks) (open_after plan ticks) (saved_open plan ticks content saved parts) parts.runs ∙ ap (λ (t : ℤ). map (λ list. Timeout (taken_of (events_of ticks) list)) (flat_map (waiting_at plan (events_of ticks)) (due_among saved.within (At t) saved.starts))) trip in
+    c.in_ok-add_matches.ensures ∙ (λ i. timeouts i ++ map Match c.in_ok-found.found)
+    ∙ kept_at-event plan ticks content saved parts event later limit c.in_ok-lists.lists lists c.in_ok-found.found (c.in_ok-found.ensures.chosen small)
+
+pub returns-clause-parts : goal.returns-clause-parts
+returns-clause-parts c = λ ticks parts later limit.
+    let plan = c.args.plan.now in
+    let event = c.args.event.now in
+    let content = c.args.runs.now in
+    let saved = c.args.limits.now in
+    let fits : FitsSigned w64 event.ts = search rules in
+    let trip : to_z w64 (of_z w64 event.ts) ≡ event.ts = to_z-of_z w64 event.ts fits in
+    let still = subst (λ (t : ℤ). Stands plan (events_of ticks) (λ p. open_after plan ticks p && not (list_any (λ s. s == p) (due_among saved.within (At t) saved.starts))) c.time_out.new.runs) trip (c.in_ok-items.ensures.runs (events_of ticks) (open_after plan ticks) parts.runs) in
+    let ready = runs_ready plan ticks content saved parts event later limit c.time_out.new.runs still in
+    let open_new = is_open plan ticks content saved parts event later limit in
+    let lists = c.in_ok-lists.ensures.matches (events_of ticks) _ open_new ready in
+    let stepped = c.in_ok-lists.ensures.runs (events_of ticks) _ open_new ready in
+    let room : length (events_of ticks) < 2 ^ 32 - 1 = omega (arith, c.requires.room, parts.runs.0) in
+    let small = matches_small plan ticks content saved parts event later limit c.in_ok-lists.lists lists room in
+    let found_small = c.in_ok-found.ensures.small small in
+    let at : c.position-position.result ≡ length (events_of ticks) = c.position-position.ensures ∙ parts.runs.0 in
+    let left : c.time_out.new.limits ≡ record { within = saved.within; starts = left_among saved.within (At event.ts) saved.starts } = c.in_ok-items.ensures.limits ∙ ap (λ (t : ℤ). record saved { starts = left_among saved.within (At t) saved.starts }) trip in
+    let added : c.add.new.self ≡ record { within = saved.within; starts = left_among saved.within (At event.ts) saved.starts ++ limited saved.within (record { position = length (events_of ticks); ts = event.ts } ∷ []) } =
+    c.in_ok-add.ensures.ok ∙ (λ i. record { within = (left i).within; starts = (left i).starts ++ limited (left i).within (record { position = at i; ts = trip i } ∷ []) }) in
+    PartsStand-event plan ticks content saved parts event later limit c.in_ok-lists.lists lists c.in_ok-found.found (c.in_ok-found.ensures.chosen small) c.kill_runs.new.runs c.drop_killed.new.limits
+    (c.kill_runs.ensures.runs found_small plan _ _ stepped)
+    (c.drop_killed.ensures.left found_small ∙ (λ i. record { within = (added i).within; starts = filter (λ (s : Start). not (list_any (item_kills_start plan.skip s.position) (map Match c.in_ok-found.found))) (added i).starts }))
+
+pub returns-clause-behind : goal.returns-clause-behind
+returns-clause-behind c =
+    let event = c.args.event.now in
+    let fits : FitsSigned w64 event.ts = search rules in
+    let trip : to_z w64 (of_z w64 event.ts) ≡ event.ts = to_z-of_z w64 event.ts fits in
+    let before = c.args.runs.now.position in
+    let all = left_behind before event.ts c.args.limits.now c.time_out.new.limits (At (to_z w64 (of_z w64 event.ts))) c.in_ok-items.ensures.limits c.requires.behind in
+    let added : c.add.new.self ≡ record c.time_out.new.limits { starts = c.time_out.new.limits.starts ++ limited c.time_out.new.limits.within (record { position = before; ts = event.ts } ∷ []) } =
+    c.in_ok-add.ensures.ok ∙ (λ i. record c.time_out.new.limits { starts = c.time_out.new.limits.starts ++ limited c.time_out.new.limits.within (record { position = c.position-position.ensures i; ts = trip i } ∷ []) }) in
+    let next : c.kill_runs.new.runs.position ≡ before + 1 = omega (arith, c.kill_runs.ensures.position, c.in_ok-lists.ensures.position, c.in_ok-items.ensures.position) in
+    subst (λ n. Each (IsBehind n event.ts) c.drop_killed.new.limits.starts) (sym next) (c.drop_killed.ensures.behind (before + 1) event.ts (added_behind before event.ts c.time_out.new.limits c.add.new.self added all))

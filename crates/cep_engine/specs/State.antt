@@ -1,0 +1,38 @@
+-- What an engine is seen as, and the ticks that it stands for. (This project's own.)
+use Rattle.std.specs.Prelude.{ℕ, ℤ, ◌<◌, ◌≡◌, Bool, true, int_le, List, [], Option, Some, None, option_map, IfSome}
+use Rattle.std.specs.List.{AllByRecursion as Each}
+use Rattle.cep_event.specs.declared.record.Moment.TheVariants.{At}
+use Rattle.cep_plan.specs.declared.plan.Plan.{Plan}
+use Rattle.cep_plan.specs.declared.item.Item.{Item}
+use Rattle.cep_plan.specs.Tick.{Tick, last_time}
+use Rattle.run_step.specs.Content.{Content}
+use Rattle.time_limit.specs.declared.limits.Start.{Start}
+use Rattle.time_limit.specs.Limits.{Kept}
+use Rattle.cep_engine.specs.Standing.{PartsStand}
+
+-- the plan, the runs, the limits, the time of the last tick, the items not yet handed out, and whether an earlier call met want of memory
+pub record State : Type 0 where
+  pub plan : Plan
+  pub runs : Content
+  pub limits : Kept
+  pub last : Option ℤ
+  pub items : List Item
+  pub spent : Bool
+
+-- The engine stands for the ticks.
+pub record StandsFor (ticks : List Tick) (state : State) : Type 0 where
+  pub parts : PartsStand state.plan ticks state.runs state.limits
+  pub last : option_map At state.last ≡ last_time ticks
+
+-- the time isn't below that of the last tick
+abbrev pub IsNotBefore : Option ℤ → ℤ → Type 0
+IsNotBefore last time = IfSome last (λ earlier. int_le earlier time ≡ true)
+
+-- Each start is below the position, and its time isn't above the last one. Before the first tick there is none.
+abbrev pub AreBehind : ℕ → Option ℤ → List Start → Type 0
+AreBehind position None starts = starts ≡ []
+AreBehind position (Some time) starts = Each (λ start. (start.position < position) × (int_le start.ts time ≡ true)) starts
+
+-- the time limit isn't 0
+abbrev pub HasRoom : Plan → Type 0
+HasRoom plan = IfSome plan.within (λ within. 0 < within)

@@ -1,0 +1,257 @@
+ghost use Rattle.std.specs.Prelude.{◌+◌, ◌≡◌, ◌<◌, ◌≤◌, ◌-◌, ◌^◌, ◌++◌, ◌↔◌, [], ◌∷◌, List, Some, None, true, false, length, IsTrue, IfOk, OnOk, OnErr};
+ghost use Rattle.std.specs.Prelude.{Ok, Err};
+ghost use Rattle.cep_event.specs.declared.record.Moment.TheVariants.{At, End};
+ghost use Rattle.cep_plan.specs.Tick.{Tick, event_tick, mark_tick};
+ghost use Rattle.cep_engine.specs.Standing.{kept_at};
+ghost use Rattle.cep_engine.specs.State.{StandsFor, IsNotBefore, HasRoom};
+ghost use Rattle.cep_engine.specs.declared.engine.EngineFault.TheVariants.{Spent};
+ghost use Rattle.cep_engine.specs.declared.engine.EngineFault.TheVariants as fault;
+
+use crate::tick::{take_event, take_mark};
+use cep_event::{Event, Moment, NoMemory};
+use cep_plan::{ItemList, Plan};
+use run_step::RunSet;
+use std::alloc::Global;
+use std::marker::Model;
+use std::mem;
+use time_limit::Limits;
+
+/// Why an engine gives no answer.
+#[derive(Clone, Copy, Debug, PartialEq, Eq)]
+pub enum EngineFault {
+    /// Memory was wanted, and the engine is spent.
+    NoMemory,
+    /// An earlier call wanted memory.
+    Spent,
+}
+
+impl From<NoMemory> for EngineFault {
+    fn from(_fault: NoMemory) -> EngineFault {
+        EngineFault::NoMemory
+    }
+}
+
+/// Whether the pattern has no time limit, or one above 0.
+pub fn has_room(plan: &Plan) -> bool
+    ensures { IsTrue result ↔ HasRoom plan.now }
+{
+    match plan.within {
+        None => true,
+        Some(within) => within > 0,
+    }
+}
+
+/// Adds these items at the end. Where memory is wanted none is added.
+pub fn append(items: &mut ItemList, more: ItemList) -> Result<(), NoMemory>
+    ensures ok { OnOk result (items.new ≡ items.old ++ more) }
+    ensures err { OnErr result (items.new ≡ items.old) }
+{
+    let empty = items.emptied();
+    let mut all = mem::replace(items, empty).into_vec();
+    let mut more = more.into_vec();
+    let outcome = all.append(&mut more);
+    *items = ItemList::from_vec(all);
+    outcome?;
+    Ok(())
+}
+
+/// Takes ticks, one after another, and tells the items that the skip strategy keeps.
+#[derive(Drop)]
+pub struct Engine {
+    alloc: Global,
+    plan: Plan,
+    runs: RunSet,
+    limits: Limits,
+    // The time of the last tick in milliseconds.
+    last: Option<i64>,
+    items: ItemList,
+    spent: bool,
+}
+
+impl Model for Engine {
+    ghost use Rattle.std.specs.Prelude.{◌≡◌, ◌≤◌, ◌^◌, false, length};
+    ghost use Rattle.cep_engine.specs.State.{State, AreBehind, HasRoom};
+    ghost use Rattle.std.specs.Coded.{codes};
+    ghost use Rattle.cep_plan.specs.contracts.condition.Expr as expr;
+
+    ghost Value = { State };
+
+    ghost coded = { Prim.hlevel (codes, expr.the_row.coded) };
+
+    ghost view = { λ e. record { plan = e.plan; runs = e.runs; limits = e.limits; last = e.last; items = e.items; spent = e.spent } };
+
+    ghost invariant = { λ e. (length e.plan.stages ≤ 2 ^ 16) × HasRoom e.plan × (e.spent ≡ false → AreBehind e.runs.position e.last e.limits.starts) };
+}
+
+impl Engine {
+    /// An engine before its first tick. The plan is a checked one: it has at most 65,536 stages, and its time limit isn't 0.
+    pub fn new(alloc: Global, plan: Plan) -> Result<Engine, NoMemory>
+        requires stages { length plan.stages ≤ 2 ^ 16 }
+        requires within { HasRoom plan }
+        ensures stands { IfOk result (λ engine. StandsFor [] engine) }
+        ensures fresh { IfOk result (λ engine. (engine.plan ≡ plan) × (engine.last ≡ None) × (engine.runs.position ≡ 0) × (engine.items ≡ []) × (engine.spent ≡ false)) }
+    {
+        let runs = RunSet::new(alloc, &plan)?;
+        let limits = Limits::new(alloc, plan.within);
+        Ok(Engine {
+            alloc,
+            plan,
+            runs,
+            limits,
+            last: None,
+            items: ItemList::new(alloc),
+            spent: false,
+        })
+    }
+
+    /// Whether the time, in milliseconds, isn't below that of the last tick.
+    pub fn may_come(&self, time: i64) -> bool
+        ensures { IsTrue result ↔ IsNotBefore self.now.last time }
+    {
+        match self.last {
+            None => true,
+            Some(last) => last <= time,
+        }
+    }
+
+    /// How many events were taken.
+    pub fn count(&self) -> u32
+        ensures { result ≡ self.now.runs.position }
+    {
+        self.runs.position()
+    }
+
+    /// Takes an event, or wants memory and is spent.
+    fn take_event(&mut self, event: &Event) -> Result<(), NoMemory>
+        requires fresh { self.old.spent ≡ false }
+        requires room { self.old.runs.position < 2 ^ 32 - 1 }
+        requires time { IsNotBefore self.old.last event.now.ts }
+        ensures plan { self.new.plan ≡ self.old.plan }
+        ensures err { OnErr result ((self.new.spent ≡ true) × (self.new.items ≡ self.old.items)) }
+        ensures ok { OnOk result ((self.new.spent ≡ false) × (self.new.last ≡ Some event.now.ts) × (self.new.runs.position ≡ self.old.runs.position + 1)) }
+        ensures stands { (ticks : List Tick) → StandsFor ticks self.old → IfOk result (λ done. StandsFor (ticks ++ event_tick event.now ∷ []) self.new) }
+        ensures items { (ticks : List Tick) → StandsFor ticks self.old → IfOk result (λ done. self.new.items ≡ self.old.items ++ kept_at self.old.plan ticks (event_tick event.now)) }
+    {
+        self.spent = true;
+        let made = take_event(
+            &mut self.runs,
+            &mut self.limits,
+            &self.plan,
+            event,
+            self.alloc,
+        )?;
+        append(&mut self.items, made)?;
+        self.last = Some(event.ts);
+        self.spent = false;
+        Ok(())
+    }
+
+    /// Takes a mark, or wants memory and is spent.
+    fn take_mark(&mut self, time: i64) -> Result<(), NoMemory>
+        requires fresh { self.old.spent ≡ false }
+        requires time { IsNotBefore self.old.last time }
+        ensures plan { self.new.plan ≡ self.old.plan }
+        ensures err { OnErr result ((self.new.spent ≡ true) × (self.new.items ≡ self.old.items)) }
+        ensures ok { OnOk result ((self.new.spent ≡ false) × (self.new.last ≡ Some time) × (self.new.runs.position ≡ self.old.runs.position)) }
+        ensures stands { (ticks : List Tick) → StandsFor ticks self.old → IfOk result (λ done. StandsFor (ticks ++ mark_tick (At time) ∷ []) self.new) }
+        ensures items { (ticks : List Tick) → StandsFor ticks self.old → IfOk result (λ done. self.new.items ≡ self.old.items ++ kept_at self.old.plan ticks (mark_tick (At time))) }
+    {
+        self.spent = true;
+        let now = Moment::At(time);
+        let made = take_mark(
+            &mut self.runs,
+            &mut self.limits,
+            &self.plan,
+            now,
+            self.alloc,
+        )?;
+        append(&mut self.items, made)?;
+        self.last = Some(time);
+        self.spent = false;
+        Ok(())
+    }
+
+    /// Takes an event tick. The event's time isn't below that of the last tick, and fewer than 2^32 - 1 events came before.
+    /// The items not yet handed out grow by the kept items of the tick. `NoMemory` adds none, and from then on the engine is spent.
+    pub fn event(&mut self, event: Event) -> Result<(), EngineFault>
+        requires room { self.old.spent ≡ false → self.old.runs.position < 2 ^ 32 - 1 }
+        requires time { self.old.spent ≡ false → IsNotBefore self.old.last event.ts }
+        ensures plan { self.new.plan ≡ self.old.plan }
+        ensures spent { (result ≡ Err Spent) ↔ (self.old.spent ≡ true) }
+        ensures stays { self.old.spent ≡ true → self.new ≡ self.old }
+        ensures no_memory { result ≡ Err fault.NoMemory → (self.new.spent ≡ true) × (self.new.items ≡ self.old.items) }
+        ensures ok { OnOk result ((self.new.spent ≡ false) × (self.new.last ≡ Some event.ts) × (self.new.runs.position ≡ self.old.runs.position + 1)) }
+        ensures stands { (ticks : List Tick) → StandsFor ticks self.old → IfOk result (λ done. StandsFor (ticks ++ event_tick event ∷ []) self.new) }
+        ensures items { (ticks : List Tick) → StandsFor ticks self.old → IfOk result (λ done. self.new.items ≡ self.old.items ++ kept_at self.old.plan ticks (event_tick event)) }
+    {
+        if self.spent {
+            return Err(EngineFault::Spent);
+        }
+        match self.take_event(&event) {
+            Ok(()) => Ok(()),
+            Err(NoMemory) => Err(EngineFault::NoMemory),
+        }
+    }
+
+    /// Takes a mark tick, with a time in milliseconds that isn't below that of the last tick.
+    /// The items not yet handed out grow by the kept items of the tick. `NoMemory` adds none, and from then on the engine is spent.
+    pub fn mark(&mut self, time: i64) -> Result<(), EngineFault>
+        requires time { self.old.spent ≡ false → IsNotBefore self.old.last time }
+        ensures plan { self.new.plan ≡ self.old.plan }
+        ensures spent { (result ≡ Err Spent) ↔ (self.old.spent ≡ true) }
+        ensures stays { self.old.spent ≡ true → self.new ≡ self.old }
+        ensures no_memory { result ≡ Err fault.NoMemory → (self.new.spent ≡ true) × (self.new.items ≡ self.old.items) }
+        ensures ok { OnOk result ((self.new.spent ≡ false) × (self.new.last ≡ Some time) × (self.new.runs.position ≡ self.old.runs.position)) }
+        ensures stands { (ticks : List Tick) → StandsFor ticks self.old → IfOk result (λ done. StandsFor (ticks ++ mark_tick (At time) ∷ []) self.new) }
+        ensures items { (ticks : List Tick) → StandsFor ticks self.old → IfOk result (λ done. self.new.items ≡ self.old.items ++ kept_at self.old.plan ticks (mark_tick (At time))) }
+    {
+        if self.spent {
+            return Err(EngineFault::Spent);
+        }
+        match self.take_mark(time) {
+            Ok(()) => Ok(()),
+            Err(NoMemory) => Err(EngineFault::NoMemory),
+        }
+    }
+
+    /// Hands out the kept items not yet handed out, in order. It takes no memory.
+    pub fn items(&mut self) -> ItemList
+        ensures items { result ≡ self.old.items }
+        ensures rest { self.new ≡ record self.old { items = [] } }
+    {
+        let empty = self.items.emptied();
+        mem::replace(&mut self.items, empty)
+    }
+
+    /// Ends the input: hands out the items not yet handed out, and then the kept items of a tick above all times.
+    pub fn end(self) -> Result<ItemList, EngineFault>
+        ensures spent { (result ≡ Err Spent) ↔ (self.spent ≡ true) }
+        ensures items { (ticks : List Tick) → StandsFor ticks self → IfOk result (λ items. items ≡ self.items ++ kept_at self.plan ticks (mark_tick End)) }
+    {
+        if self.spent {
+            return Err(EngineFault::Spent);
+        }
+        match self.ended() {
+            Ok(items) => Ok(items),
+            Err(NoMemory) => Err(EngineFault::NoMemory),
+        }
+    }
+
+    /// The items not yet handed out, and then those of the end.
+    fn ended(self) -> Result<ItemList, NoMemory>
+        requires fresh { self.spent ≡ false }
+        ensures { (ticks : List Tick) → StandsFor ticks self → IfOk result (λ items. items ≡ self.items ++ kept_at self.plan ticks (mark_tick End)) }
+    {
+        let mut engine = self;
+        engine.spent = true;
+        let made = take_mark(
+            &mut engine.runs,
+            &mut engine.limits,
+            &engine.plan,
+            Moment::End,
+            engine.alloc,
+        )?;
+        append(&mut engine.items, made)?;
+        Ok(engine.items())
+    }
+}

@@ -1,0 +1,61 @@
+//! One tick: what it makes of the runs and the limits, and its kept items.
+ghost use Rattle.std.specs.Prelude.{ℤ, ◌≡◌, ◌<◌, ◌≤◌, ◌+◌, ◌-◌, ◌^◌, ◌++◌, [], ◌∷◌, List, true, int_le, length, IfOk, IfSome};
+ghost use Rattle.std.specs.List.{AllByRecursion as Each};
+ghost use Rattle.cep_event.specs.declared.record.Moment.TheVariants.{At};
+ghost use Rattle.cep_plan.specs.Tick.{Tick, event_tick, mark_tick};
+ghost use Rattle.cep_engine.specs.Standing.{kept_at, PartsStand, ComesLater};
+
+use crate::matches::{add_matches, drop_killed, kept_matches, kill_runs};
+use crate::timeouts::time_out;
+use cep_event::{Event, Moment, NoMemory};
+use cep_plan::{ItemList, Plan};
+use run_step::{RunSet, step};
+use std::alloc::Global;
+use time_limit::Limits;
+
+/// Takes a mark: its kept items are the timeouts.
+pub fn take_mark(
+    runs: &mut RunSet,
+    limits: &mut Limits,
+    plan: &Plan,
+    now: Moment,
+    alloc: Global,
+) -> Result<ItemList, NoMemory>
+    requires behind { Each (λ s. s.position < runs.old.position) limits.old.starts }
+    ensures items { (ticks : List Tick) → PartsStand plan.now ticks runs.old limits.old → IfOk result (λ items. items ≡ kept_at plan.now ticks (mark_tick now)) }
+    ensures parts { (ticks : List Tick) → PartsStand plan.now ticks runs.old limits.old → ComesLater ticks now → IfOk result (λ items. PartsStand plan.now (ticks ++ mark_tick now ∷ []) runs.new limits.new) }
+    ensures position { IfOk result (λ items. runs.new.position ≡ runs.old.position) }
+    ensures behind { (time : ℤ) → Each (λ s. (s.position < runs.old.position) × (int_le s.ts time ≡ true)) limits.old.starts → IfOk result (λ items. Each (λ s. (s.position < runs.new.position) × (int_le s.ts time ≡ true)) limits.new.starts) }
+{
+    // The position is a `u32`, so each start before it has a next one.
+    let _ = runs.position();
+    let items = time_out(runs, limits, plan, now, alloc)?;
+    Ok(items)
+}
+
+/// Takes an event: first the timeouts at its time, then the matches that it ends.
+pub fn take_event(
+    runs: &mut RunSet,
+    limits: &mut Limits,
+    plan: &Plan,
+    event: &Event,
+    alloc: Global,
+) -> Result<ItemList, NoMemory>
+    requires stages { length plan.now.stages ≤ 2 ^ 16 }
+    requires room { runs.old.position < 2 ^ 32 - 1 }
+    requires behind { Each (λ s. (s.position < runs.old.position) × (int_le s.ts event.now.ts ≡ true)) limits.old.starts }
+    ensures items { (ticks : List Tick) → PartsStand plan.now ticks runs.old limits.old → ComesLater ticks (At event.now.ts) → IfSome plan.now.within (λ w. 0 < w) → IfOk result (λ items. items ≡ kept_at plan.now ticks (event_tick event.now)) }
+    ensures parts { (ticks : List Tick) → PartsStand plan.now ticks runs.old limits.old → ComesLater ticks (At event.now.ts) → IfSome plan.now.within (λ w. 0 < w) → IfOk result (λ items. PartsStand plan.now (ticks ++ event_tick event.now ∷ []) runs.new limits.new) }
+    ensures position { IfOk result (λ items. runs.new.position ≡ runs.old.position + 1) }
+    ensures behind { IfOk result (λ items. Each (λ s. (s.position < runs.new.position) × (int_le s.ts event.now.ts ≡ true)) limits.new.starts) }
+{
+    let position = runs.position();
+    let mut items = time_out(runs, limits, plan, Moment::At(event.ts), alloc)?;
+    let lists = step(runs, plan, event)?;
+    let found = kept_matches(plan.skip, lists)?;
+    limits.add(position, event.ts)?;
+    kill_runs(runs, plan.skip, &found);
+    drop_killed(limits, plan.skip, &found);
+    add_matches(&mut items, found)?;
+    Ok(items)
+}

@@ -1,0 +1,16 @@
+pub mod LiteralLemmas
+pub mod ChainLemmas
+pub mod ExpressionLaws
+pub mod SameLaws
+pub mod Scanned
+pub mod Marks
+pub mod Prints
+pub mod PrintedLeaves
+pub mod PrintedChains
+pub mod PrintedParts
+pub mod PrintedSums
+pub mod PrintedNodes
+pub mod PrintedTypes
+pub mod PrintedStages
+pub mod PrintedFiles
+pub mod ReadBackLaws

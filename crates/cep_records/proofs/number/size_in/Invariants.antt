@@ -1,0 +1,11 @@
+use Rattle.std.proofs.Common.{◌≡◌, ◌≤◌, true, take}
+use Rattle.std.specs.Str.{all_ascii_digits}
+use Rattle.std.specs.Str.Parse.{digits_value}
+use Rattle.cep_records.proofs.number.size_in.Given as goal
+
+abbrev pub invariant-loop-digit : goal.invariant-loop-digit
+invariant-loop-digit l = record {
+  digits : all_ascii_digits (take l.digit-index l.digits) ≡ true;
+  size : l.size ≡ digits_value 10 (take l.digit-index l.digits);
+  bound : l.size ≤ 9223372036854775809;
+}

@@ -1,0 +1,5 @@
+pub mod Causes
+pub mod Number
+pub mod Bare
+pub mod Record
+pub mod Numbered

@@ -1,0 +1,13 @@
+//! Reads a line as a record: a blank line, a mark, or an event of one of the declared types.
+#![tactic(auto)]
+
+mod bare;
+mod cause;
+mod number;
+mod reading;
+#[cfg(test)]
+mod tests;
+mod values;
+
+pub use cause::{RowCause, RowFault};
+pub use reading::record_of;

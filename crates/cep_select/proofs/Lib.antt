@@ -1,0 +1,3 @@
+pub mod QuoteLaws
+pub mod RowLaws
+pub mod StageLaws

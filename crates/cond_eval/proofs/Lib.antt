@@ -1,0 +1,4 @@
+pub mod AggregateLaws
+pub mod PartLaws
+pub mod QuestionLaws
+pub mod ChainLaws

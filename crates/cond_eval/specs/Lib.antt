@@ -1,0 +1,4 @@
+pub mod Asked
+pub mod Chain
+pub mod Known
+pub mod Listed

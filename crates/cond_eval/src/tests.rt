@@ -1,0 +1,3 @@
+mod aggregates;
+mod build;
+mod operators;

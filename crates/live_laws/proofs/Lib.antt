@@ -1,0 +1,16 @@
+pub mod BoolLaws
+pub mod LastLaws
+pub mod GapLaws
+pub mod SurvivalLaws
+pub mod PartialLaws
+pub mod GrowthLaws
+pub mod WaitLaws
+pub mod MemberLaws
+pub mod LiveLaws
+pub mod AnswerLaws
+pub mod OrderLaws
+pub mod RepeatLaws
+pub mod KeepLaws
+pub mod TickLaws
+pub mod DueLaws
+pub mod TimeLaws

@@ -1,0 +1,11 @@
+pub mod TranslatedLaws
+pub mod KeptRules
+pub mod ListLaws
+pub mod BoundLaws
+pub mod CheckedLaws
+pub mod FromLaws
+pub mod AfterLaws
+pub mod SoundLaws
+pub mod StageLaws
+pub mod NumberedLaws
+pub mod ExpressionLaws

@@ -1,0 +1,3 @@
+mod MentionLaws
+mod KindLaws
+mod FieldLaws

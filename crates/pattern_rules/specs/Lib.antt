@@ -1,0 +1,13 @@
+pub mod First
+pub mod Role
+pub mod Bounds
+pub mod Named
+pub mod Fields
+pub mod Declarations
+pub mod Stages
+pub mod Whole
+pub mod Mention
+pub mod Mentioned
+pub mod Kinds
+pub mod Rules
+pub mod Index

@@ -1,0 +1,9 @@
+pub mod RangeLaws
+pub mod RunLaws
+pub mod StepLaws
+pub mod StartLaws
+pub mod MatchLaws
+pub mod SortLaws
+pub mod LiveRunLaws
+pub mod WaitingLaws
+pub mod ShortLaws

@@ -1,0 +1,8 @@
+//! Time limits: the starts of partial matches whose time is still open, in order, and which of them are due.
+#![tactic(auto)]
+
+mod limits;
+#[cfg(test)]
+mod tests;
+
+pub use limits::{Limits, Start};

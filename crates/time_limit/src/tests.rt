@@ -1,0 +1,32 @@
+use crate::Limits;
+use cep_event::Moment;
+use std::test::Fail;
+
+#[test]
+fn a_start_is_due_at_its_limit(rt: HostRuntime) -> Result<(), Fail> {
+    let mut limits = Limits::new(rt.alloc(), Some(10));
+    limits.add(3, 100)?;
+    assert_eq!(rt; limits.next_due(Moment::At(109)), None);
+    assert_eq!(rt; limits.next_due(Moment::At(110)), Some(3));
+    assert_eq!(rt; limits.next_due(Moment::End), None);
+    Ok(())
+}
+
+#[test]
+fn a_range_of_starts_goes(rt: HostRuntime) -> Result<(), Fail> {
+    let mut limits = Limits::new(rt.alloc(), Some(10));
+    limits.add(3, 100)?;
+    limits.drop_range(0, 3);
+    assert_eq!(rt; limits.next_due(Moment::At(109)), None);
+    limits.drop_range(3, 4);
+    assert_eq!(rt; limits.next_due(Moment::End), None);
+    Ok(())
+}
+
+#[test]
+fn without_a_limit_nothing_is_due(rt: HostRuntime) -> Result<(), Fail> {
+    let mut limits = Limits::new(rt.alloc(), None);
+    limits.add(3, 100)?;
+    assert_eq!(rt; limits.next_due(Moment::End), None);
+    Ok(())
+}
