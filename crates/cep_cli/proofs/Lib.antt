@@ -1,3 +1,7 @@
-pub mod OutputLaws
 pub mod PatternLaws
+pub mod StopLaws
+pub mod TickLaws
 pub mod RunLaws
+pub mod RowLaws
+pub mod ShortLaws
+pub mod BegunLaws

@@ -1,159 +1,149 @@
--- Lines under a strict pair: none is a mark, so none causes text, and all is owed at the end.
-use Rattle.std.proofs.Common.{◌≡◌, ◌<◌, ◌≤◌, ◌+◌, ◌^◌, ℕ, List, [], ◌∷◌, ◌++◌, length, drop, Bool, true, false, cond, ltb, Option, Some, None, refl, sym, ap, ◌∙◌, subst, arith}
-use Rattle.std.specs.Prelude.{ℤ, int_le, option_to_list, if◌then◌else◌}
-use Rattle.std.specs.List.{list_any, position_or_len, before_first, after_first}
-use Rattle.std.proofs.lemmas.List.{length-append}
-use Rattle.std.proofs.lemmas.List.{drop_all}
+-- One record more, from what arrives to what is printed.
+use Rattle.std.proofs.Common.{◌≡◌, refl, sym, ◌∙◌, ap, subst, ℕ, ◌+◌, ◌≤◌, ◌<◌, arith, Bool, true, false, cond, eqb, List, [], ◌∷◌, ◌++◌, length, map, drop, append_assoc, append-nil, Option, Some, None}
+use Rattle.std.specs.Prelude.{ℤ, Result, Ok, Err, if◌then◌else◌, ◌==◌, not, slice_index_or}
+use Rattle.std.specs.Str.{bytes_eq}
+use Rattle.cep_records.specs.Bare.{bare_line, is_text, has_open_quote}
+use Rattle.line_fields.specs.Line.{fields_of_line}
+use Rattle.std.specs.List.{AllByRecursion as Each}
 use Rattle.cep_event.specs.declared.event.Event.{Event}
 use Rattle.cep_event.specs.declared.event.EventType.{EventType}
+use Rattle.cep_event.specs.declared.event.Field.{Field}
+use Rattle.cep_event.specs.declared.value.Value.{Value}
 use Rattle.cep_event.specs.declared.record.LineRecord.{LineRecord}
 use Rattle.cep_event.specs.declared.record.LineRecord.TheVariants.{Blank, Mark, Row}
-use Rattle.cep_form.specs.Record.{record_of_line, row_of, row_of_type, are_digits, is_comma}
-use Rattle.cep_form.specs.Names.{place_of, names_of}
-use Rattle.cep_pair.specs.Pair.{IsStrictPair}
-use Rattle.cep_pair.specs.Arrived.{AllUnmarked, IsUnmarked, events_in, event_in_record}
-use Rattle.cep_pair.proofs.ArrivedLaws.{ticks_of-unmarked}
-use Rattle.cep_plan.specs.declared.plan.Plan.{Plan}
-use Rattle.cep_plan.specs.EventTime.{marks_among, arrivals_after, ticks_of, all_ticks}
-use Rattle.cep_plan.specs.Tick.{Tick}
+use Rattle.cep_event.specs.declared.record.Moment.TheVariants.{At, End}
 use Rattle.cep_plan.specs.declared.item.Item.{Item}
-use Rattle.cep_plan.specs.History.{history}
-use Rattle.cep_plan.specs.Skipping.{kept}
-use Rattle.cep_cli.specs.Records.{record_or_blank, record_at, records_from, records_of}
-use Rattle.cep_cli.specs.Meaning.{kept_items, added_items, late_text, caused_text, owed_text, refusal_of, meaning_of}
-use Rattle.cep_session.specs.Meaning.{Meaning}
-use Rattle.cep_cli.specs.Output.{rows_of, late_row}
+use Rattle.cep_plan.specs.declared.plan.Plan.{Plan}
+use Rattle.cep_plan.specs.EventTime.{Arrival, arrived, marked, rises, is_late, released, marks_behind, arrivals_of, ticks_of, ticks_of_mark, ticks_of_arrival, ticks_after}
+use Rattle.cep_plan.specs.Tick.{Tick, event_tick, mark_tick}
+use Rattle.cep_engine.specs.State.{State, StandsFor}
+use Rattle.cep_records.specs.Record.{event_of, event_at, event_of_type, event_if, mark_at, mark_of, record_of_fields, record_of_bare, record_of_line, type_named, field_at, at_sign, no_type, values_in}
+use Rattle.cep_records.specs.Number.{number_in}
+use Rattle.cep_rows.specs.declared.cause.RowCause.{RowCause}
+use Rattle.cep_rows.specs.declared.cause.RowCause.TheVariants as cause
+use Rattle.cep_select.specs.Output.{late_row, rows_of}
+use Rattle.watermark_order.specs.Order.{OrderState, order_of, ready, settled, with_mark, event_times, HandsOut}
+use Rattle.watermark_order.proofs.OrderLaws.{order_of-stays, rises_is}
+use Rattle.watermark_order.proofs.RecordLaws.{arrivals_of-blank, arrivals_of-mark, arrivals_of-row, ticks_of-blank, ticks_of-mark, ticks_of-row}
+use Rattle.cep_cli.specs.Meaning.{late_text, added_items, caused_text}
+use Rattle.cep_cli.specs.Run.{HasGone}
+use Rattle.cep_cli.specs.Ticks.{kept_more, HasTaken, HasMet}
+use Rattle.cep_cli.proofs.TickLaws.{taken-nothing, taken-more, added-more, ticks_after-one}
 
--- ---- records
+-- ---- a mark
 
-row_unmarked : (place : Option ℕ) (row : ℕ) (digits : List ℕ) → IsUnmarked (record_or_blank (row_of_type row digits place))
-row_unmarked None row digits = tt
-row_unmarked (Some type) row digits = tt
+-- the ticks of one mark behind arrivals
+mark_ticks : (arrivals : List Arrival) (time : ℤ) (b : Bool) → rises arrivals time ≡ b → (if b then ticks_of_mark arrivals (At time) else []) ≡ ticks_after arrivals (marked time ∷ [])
+mark_ticks arrivals time b is = ap (λ c. if c then ticks_of_mark arrivals (At time) else []) (sym is) ∙ sym (ticks_after-one arrivals time)
 
-if_unmarked : (b : Bool) (r : Option LineRecord) → IsUnmarked (record_or_blank r) → IsUnmarked (record_or_blank (cond b r None))
-if_unmarked true r h = h
-if_unmarked false r h = tt
+pub raised : (lag : Option ℕ) (arrivals : List Arrival) (ticks : List Tick) (time : ℤ) (o p : OrderState) (a b c : State)
+    → rises arrivals time ≡ true → HandsOut o (released arrivals (At time)) (order_of lag (arrivals ++ marked time ∷ []))
+    → p ≡ settled o → b.plan ≡ a.plan → HasTaken ticks (map event_tick (ready o)) a b
+    → ((before : List Tick) → StandsFor before b → HasTaken before (mark_tick (At time) ∷ []) b c)
+    → HasMet lag arrivals (marked time ∷ []) ticks a c p
+raised lag arrivals ticks time o p a b c up hands rest plan fed closed =
+    let all = taken-more ticks (map event_tick (ready o)) (mark_tick (At time) ∷ []) a b c plan fed (closed (ticks ++ map event_tick (ready o)) fed.stands) in
+    record {
+      order_is = rest ∙ hands.then_settled;
+      taken = subst (λ l. HasTaken ticks l a c) (ap (λ l. map event_tick l ++ mark_tick (At time) ∷ []) hands.events_ready ∙ mark_ticks arrivals time true up) all;
+    }
 
-record_unmarked : (types : List EventType) (row : ℕ) (line : List ℕ) → IsUnmarked (record_at types row line)
+pub not-raised : (lag : Option ℕ) (arrivals : List Arrival) (ticks : List Tick) (time : ℤ) (o p : OrderState) (a : State)
+    → o ≡ order_of lag arrivals → StandsFor ticks a → rises arrivals time ≡ false → p ≡ o → HasMet lag arrivals (marked time ∷ []) ticks a a p
+not-raised lag arrivals ticks time o p a is stands low same = record {
+  order_is = same ∙ is ∙ sym (order_of-stays lag arrivals time (sym (rises_is arrivals time) ∙ low));
+  taken = subst (λ l. HasTaken ticks l a a) (mark_ticks arrivals time false low) (taken-nothing ticks a stands);
+}
+
+-- no mark behind an event
+pub met-nothing : (lag : Option ℕ) (arrivals : List Arrival) (more : List Arrival) (ticks : List Tick) (o : OrderState) (a : State)
+    → more ≡ [] → o ≡ order_of lag arrivals → StandsFor ticks a → HasMet lag arrivals more ticks a a o
+met-nothing lag arrivals more ticks o a none is stands = subst (λ l. HasMet lag arrivals l ticks a a o) (sym none) (record {
+  order_is = is ∙ ap (order_of lag) (sym (append-nil arrivals));
+  taken = taken-nothing ticks a stands;
+})
+
+-- ---- a record
+
+pub gone-blank : (lag : Option ℕ) (records : List LineRecord) (next : LineRecord) (text : List ℕ) (o : OrderState) (a : State)
+    → next ≡ Blank → text ≡ [] → o ≡ order_of lag (arrivals_of lag records) → StandsFor (ticks_of lag records) a → HasGone lag records next text a a o
+gone-blank lag records next text o a blank empty is stands = subst (λ n. HasGone lag records n text a a o) (sym blank) (record {
+  text_is = empty;
+  order_is = is ∙ ap (order_of lag) (sym (arrivals_of-blank lag records));
+  stands = subst (λ t. StandsFor t a) (sym (ticks_of-blank lag records)) stands;
+  items = sym (append-nil a.items) ∙ ap (λ l. a.items ++ l) (sym (added-more a.plan (ticks_of lag records) []) ∙ ap (added_items a.plan (ticks_of lag records)) (append-nil (ticks_of lag records) ∙ sym (ticks_of-blank lag records)));
+})
+
+pub gone-mark : (lag : Option ℕ) (records : List LineRecord) (time : ℤ) (text : List ℕ) (o : OrderState) (a b : State)
+    → text ≡ [] → HasMet lag (arrivals_of lag records) (marked time ∷ []) (ticks_of lag records) a b o → HasGone lag records (Mark time) text a b o
+gone-mark lag records time text o a b empty met =
+    let all : ticks_of lag (records ++ Mark time ∷ []) ≡ ticks_of lag records ++ ticks_after (arrivals_of lag records) (marked time ∷ []) =
+    ticks_of-mark lag records time ∙ ap (λ l. ticks_of lag records ++ l) (sym (ticks_after-one (arrivals_of lag records) time)) in
+    record {
+      text_is = empty;
+      order_is = met.order_is ∙ ap (order_of lag) (sym (arrivals_of-mark lag records time));
+      stands = subst (λ t. StandsFor t b) (sym all) met.taken.stands;
+      items = met.taken.items ∙ ap (λ l. a.items ++ l) (sym (added-more a.plan (ticks_of lag records) (ticks_after (arrivals_of lag records) (marked time ∷ []))) ∙ ap (added_items a.plan (ticks_of lag records)) (sym all));
+    }
+
+pub gone-row : (lag : Option ℕ) (records : List LineRecord) (event : Event) (text : List ℕ) (o : OrderState) (a b : State)
+    → text ≡ (if is_late (arrivals_of lag records) event then late_row event.row else [])
+    → HasMet lag (arrivals_of lag records ++ arrived event ∷ []) (marks_behind lag (event_times (arrivals_of lag records)) event.ts) (ticks_of lag records) a b o
+    → HasGone lag records (Row event) text a b o
+gone-row lag records event text o a b is met =
+    let before = arrivals_of lag records ++ arrived event ∷ [] in
+    let behind = marks_behind lag (event_times (arrivals_of lag records)) event.ts in
+    let all : ticks_of lag (records ++ Row event ∷ []) ≡ ticks_of lag records ++ ticks_after before behind = ticks_of-row lag records event in
+    record {
+      text_is = is;
+      order_is = met.order_is ∙ ap (order_of lag) (append_assoc (arrivals_of lag records) (arrived event ∷ []) behind ∙ sym (arrivals_of-row lag records event));
+      stands = subst (λ t. StandsFor t b) (sym all) met.taken.stands;
+      items = met.taken.items ∙ ap (λ l. a.items ++ l) (sym (added-more a.plan (ticks_of lag records) (ticks_after before behind)) ∙ ap (added_items a.plan (ticks_of lag records)) (sym all));
+    }
+
+-- ---- the row of an event
+
+abbrev RowIs : ℕ → Result LineRecord RowCause → Type 0
+RowIs row r = (event : Event) → r ≡ Ok (Row event) → event.row ≡ row
+
+row-if : (row : ℕ) (b : Bool) (r s : Result LineRecord RowCause) → RowIs row r → RowIs row s → RowIs row (cond b r s)
+row-if row true r s x y = x
+row-if row false r s x y = y
+
+row-event : (row : ℕ) (time : ℤ) (type : ℕ) (values : Result (List Value) RowCause) → RowIs row (event_of row time type values)
+row-event row time type (Ok values) = λ event is. inner event is where
+  inner : (event : Event) → ◌≡◌ {A = Result LineRecord RowCause} (Ok (Row (record { row = row; ts = time; type_no = type; values = values }))) (Ok (Row event)) → event.row ≡ row
+  inner event is = cc
+row-event row time type (Err why) = λ event is. cc
+
+row-at : (row type : ℕ) (declared : List Field) (fields : List (List ℕ)) (time : Option ℤ) → RowIs row (event_at row type declared fields time)
+row-at row type declared fields None = λ event is. cc
+row-at row type declared fields (Some time) = row-event row time type (values_in 1 declared (drop 2 fields))
+
+row-named : (types : List EventType) (row : ℕ) (fields : List (List ℕ)) (type : Option ℕ) → RowIs row (event_if types row fields type)
+row-named types row fields None = λ event is. cc
+row-named types row fields (Some type) =
+    let declared = (slice_index_or types type no_type).fields in
+    row-if row (length fields == length declared + 2) (event_at row type declared fields (number_in (field_at fields 1))) (Err cause.FieldCount)
+    (row-at row type declared fields (number_in (field_at fields 1))) (λ event is. cc)
+
+row-marked : (row : ℕ) (time : Option ℤ) → RowIs row (mark_at time)
+row-marked row None = λ event is. cc
+row-marked row (Some time) = λ event is. cc
+
+row-fields : (types : List EventType) (row : ℕ) (fields : List (List ℕ)) → RowIs row (record_of_fields types row fields)
+row-fields types row fields =
+    row-if row (bytes_eq (field_at fields 0) at_sign) (mark_of fields) (event_if types row fields (type_named (field_at fields 0) types))
+    (row-if row (length fields == 2) (mark_at (number_in (field_at fields 1))) (Err cause.FieldCount) (row-marked row (number_in (field_at fields 1))) (λ event is. cc))
+    (row-named types row fields (type_named (field_at fields 0) types))
+
+row-bare : (types : List EventType) (row : ℕ) (line : List ℕ) → RowIs row (record_of_bare types row line)
+row-bare types row line =
+    row-if row (length line == 0) (Ok Blank) (if not (is_text line) then Err cause.NotText else if has_open_quote line then Err cause.OpenQuote else record_of_fields types row (fields_of_line line)) (λ event is. cc)
+    (row-if row (not (is_text line)) (Err cause.NotText) (if has_open_quote line then Err cause.OpenQuote else record_of_fields types row (fields_of_line line)) (λ event is. cc)
+    (row-if row (has_open_quote line) (Err cause.OpenQuote) (record_of_fields types row (fields_of_line line)) (λ event is. cc) (row-fields types row (fields_of_line line))))
+
+-- the event of a line has the line's row
+pub row_is : (types : List EventType) (row : ℕ) (line : List ℕ) (event : Event) → record_of_line types row line ≡ Ok (Row event) → event.row ≡ row
 unfolding record_of_line
-record_unmarked types row [] = tt
-record_unmarked types row (byte ∷ bytes) =
-    let line = byte ∷ bytes in
-    let name = before_first is_comma line in
-    let digits = after_first is_comma line in
-    if_unmarked (ltb (position_or_len is_comma line) (length line)) (row_of types row name digits)
-    (if_unmarked (are_digits digits) (row_of_type row digits (place_of name (names_of types))) (row_unmarked (place_of name (names_of types)) row digits))
-
-all_unmarked : (types : List EventType) (row : ℕ) (lines : List (List ℕ)) → AllUnmarked (records_from types row lines)
-all_unmarked types row [] = tt
-all_unmarked types row (line ∷ lines) = (record_unmarked types row line, all_unmarked types (row + 1) lines)
-
-records_from-push : (types : List EventType) (row : ℕ) (lines : List (List ℕ)) (line : List ℕ)
-    → records_from types row (lines ++ line ∷ []) ≡ records_from types row lines ++ record_at types (row + length lines) line ∷ []
-records_from-push types row [] line = ap (λ (k : ℕ). record_at types k line ∷ []) (omega arith)
-records_from-push types row (first ∷ lines) line =
-    ap (λ (l : List LineRecord). record_at types row first ∷ l) (records_from-push types (row + 1) lines line)
-    ∙ ap (λ (k : ℕ). record_at types row first ∷ (records_from types (row + 1) lines ++ record_at types k line ∷ [])) (omega arith)
-
-records-push : (types : List EventType) (lines : List (List ℕ)) (line : List ℕ)
-    → records_of types (lines ++ line ∷ []) ≡ records_of types lines ++ record_at types (length lines + 1) line ∷ []
-records-push types lines line =
-    records_from-push types 1 lines line ∙ ap (λ (k : ℕ). records_of types lines ++ record_at types k line ∷ []) (omega arith)
-
-length-records : (types : List EventType) (row : ℕ) (lines : List (List ℕ)) → length (records_from types row lines) ≡ length lines
-length-records types row [] = refl
-length-records types row (line ∷ lines) = omega (arith, length-records types (row + 1) lines)
-
-length-events : (records : List LineRecord) → length (events_in records) ≤ length records
-length-events [] = omega arith
-length-events (Blank ∷ records) = omega (arith, length-events records)
-length-events (Mark time ∷ records) = omega (arith, length-events records)
-length-events (Row event ∷ records) = omega (arith, length-events records)
-
--- there are no more events than lines
-pub few-events : (types : List EventType) (lines : List (List ℕ)) → length (events_in (records_of types lines)) ≤ length lines
-few-events types lines = omega (arith, length-events (records_of types lines), length-records types 1 lines)
-
-events_in-push : (records : List LineRecord) (next : LineRecord) → events_in (records ++ next ∷ []) ≡ events_in records ++ option_to_list (event_in_record next)
-events_in-push [] Blank = refl
-events_in-push [] (Mark time) = refl
-events_in-push [] (Row event) = refl
-events_in-push (Blank ∷ records) next = events_in-push records next
-events_in-push (Mark time ∷ records) next = events_in-push records next
-events_in-push (Row event ∷ records) next = ap (λ (l : List Event). event ∷ l) (events_in-push records next)
-
--- ---- no line causes text
-
-no_marks : (earlier : List ℤ) (records : List LineRecord) → AllUnmarked records → marks_among (arrivals_after None earlier records) ≡ []
-no_marks earlier [] h = refl
-no_marks earlier (Blank ∷ records) h = no_marks earlier records h.1
-no_marks earlier (Mark time ∷ records) h = absurd h.0
-no_marks earlier (Row event ∷ records) h = no_marks (event.ts ∷ earlier) records h.1
-
-none_late : (records : List LineRecord) (next : LineRecord) → AllUnmarked records → late_text None records next ≡ []
-none_late records Blank h = refl
-none_late records (Mark time) h = refl
-none_late records (Row event) h =
-    ap (λ (marks : List ℤ). if list_any (λ mark. int_le event.ts mark) marks then late_row event.row else []) (no_marks [] records h)
-
-nothing_added : (plan : Plan) → added_items plan [] [] ≡ []
-nothing_added plan = drop_all (length (kept_items plan [])) (kept_items plan []) (omega arith)
-
-pub nothing_caused : (plan : Plan) (lines : List (List ℕ)) (line : List ℕ)
-    → caused_text None plan (records_of plan.types lines) (record_at plan.types (length lines + 1) line) ≡ []
-nothing_caused plan lines line =
-    let records = records_of plan.types lines in
-    let next = record_at plan.types (length lines + 1) line in
-    let before = all_unmarked plan.types 1 lines in
-    let all = subst AllUnmarked (records-push plan.types lines line) (all_unmarked plan.types 1 (lines ++ line ∷ [])) in
-    ap (λ (t : List ℕ). t ++ rows_of plan (added_items plan (ticks_of None records) (ticks_of None (records ++ next ∷ [])))) (none_late records next before)
-    ∙ ap (λ (ticks : List Tick). rows_of plan (added_items plan ticks (ticks_of None (records ++ next ∷ [])))) (ticks_of-unmarked records before)
-    ∙ ap (λ (ticks : List Tick). rows_of plan (added_items plan [] ticks)) (ticks_of-unmarked (records ++ next ∷ []) all)
-    ∙ ap (rows_of plan) (nothing_added plan)
-
--- ---- all is owed at the end
-
-nothing_kept : (plan : Plan) → kept_items plan [] ≡ []
-unfolding kept history
-nothing_kept plan = refl
-
-pub all_owed : (plan : Plan) (lines : List (List ℕ))
-    → owed_text None plan (records_of plan.types lines) ≡ rows_of plan (kept_items plan (all_ticks None (records_of plan.types lines)))
-all_owed plan lines =
-    let records = records_of plan.types lines in
-    ap (λ (ticks : List Tick). rows_of plan (added_items plan ticks (all_ticks None records))) (ticks_of-unmarked records (all_unmarked plan.types 1 lines))
-    ∙ ap (λ (items : List Item). rows_of plan (drop (length items) (kept_items plan (all_ticks None records)))) (nothing_kept plan)
-
--- the records of lines are as the pairs ask for them
-pub unmarked : (types : List EventType) (lines : List (List ℕ)) → AllUnmarked (records_of types lines)
-unmarked types lines = all_unmarked types 1 lines
-
--- ---- one line more
-
-abbrev pub StandsFor : Meaning → Plan → List Event → ℕ → List (List ℕ) → Type 0
-StandsFor m plan events handled lines =
-    (m ≡ meaning_of None plan) × (events ≡ events_in (records_of plan.types lines)) × (handled ≡ length lines) × IsStrictPair plan × (length plan.types < 65536) × (length lines < 2 ^ 32)
-
-pub line-more : (m : Meaning) (plan new_plan : Plan) (events new_events : List Event) (handled : ℕ) (lines : List (List ℕ)) (line text : List ℕ) (next : LineRecord)
-    → StandsFor m plan events handled lines → length lines + 1 < 2 ^ 32
-    → record_of_line plan.types (handled + 1) line ≡ Some next → new_plan ≡ plan → new_events ≡ events ++ option_to_list (event_in_record next) → text ≡ []
-    → (m.refusal lines line ≡ None) × (text ≡ m.caused lines line) × StandsFor m new_plan new_events (handled + 1) (lines ++ line ∷ [])
-line-more m plan new_plan events new_events handled lines line text next stands room is same grown empty =
-    let read : record_of_line plan.types (length lines + 1) line ≡ Some next = ap (λ (k : ℕ). record_of_line plan.types (k + 1) line) (sym stands.2) ∙ is in
-    let here : record_at plan.types (length lines + 1) line ≡ next = ap record_or_blank read in
-    let records = records_of plan.types lines in (
-      ap (λ (x : Meaning). x.refusal lines line) stands.0 ∙ ap refusal_of read,
-      empty ∙ sym (nothing_caused plan lines line) ∙ sym (ap (λ (x : Meaning). x.caused lines line) stands.0),
-      (
-        stands.0 ∙ ap (meaning_of None) (sym same),
-        grown ∙ ap (λ (l : List Event). l ++ option_to_list (event_in_record next)) stands.1
-            ∙ sym (events_in-push records next)
-            ∙ ap (λ (r : LineRecord). events_in (records ++ r ∷ [])) (sym here)
-            ∙ ap events_in (sym (records-push plan.types lines line))
-            ∙ ap (λ (p : Plan). events_in (records_of p.types (lines ++ line ∷ []))) (sym same),
-        omega (arith, stands.2, length-append lines (line ∷ [])),
-        subst IsStrictPair (sym same) stands.3,
-        subst (λ (p : Plan). length p.types < 65536) (sym same) stands.4,
-        omega (arith, room, length-append lines (line ∷ [])),
-      ),
-    )
+row_is types row line = row-bare types row (bare_line row line)

@@ -1,7 +1,9 @@
 pub mod Words
 pub mod Pattern
+pub mod Stop
 pub mod Records
-pub mod Output
 pub mod Meaning
 pub mod Verdict
-pub mod Pieces
+pub mod Ticks
+pub mod Short
+pub mod Run

@@ -1,8 +1,8 @@
 -- What lines mean under a plan: which are refused, and the text that the others cause. Late events and items are those of the definitions of event time and of matches; that a line's late row comes before the items that it causes is this project's own.
-use Rattle.std.specs.Prelude.{ℕ, ◌+◌, List, [], ◌∷◌, ◌++◌, length, drop, if◌then◌else◌, Option, Some, None}
+use Rattle.std.specs.Prelude.{ℕ, ◌+◌, List, [], ◌∷◌, ◌++◌, length, drop, if◌then◌else◌, Option, Some, None, Result, Ok, Err}
 use Rattle.cep_event.specs.declared.record.LineRecord.{LineRecord}
 use Rattle.cep_event.specs.declared.record.LineRecord.TheVariants.{Blank, Mark, Row}
-use Rattle.cep_form.specs.Record.{record_of_line}
+use Rattle.cep_records.specs.Record.{record_of_line}
 use Rattle.cep_plan.specs.declared.item.Item.{Item}
 use Rattle.cep_plan.specs.declared.plan.Plan.{Plan}
 use Rattle.cep_plan.specs.EventTime.{arrivals_of, is_late, ticks_of, all_ticks}
@@ -10,17 +10,17 @@ use Rattle.cep_plan.specs.History.{history}
 use Rattle.cep_plan.specs.Skipping.{kept}
 use Rattle.cep_plan.specs.Tick.{Tick}
 use Rattle.cep_rows.specs.declared.cause.RowCause.{RowCause}
-use Rattle.cep_rows.specs.declared.cause.RowCause.TheVariants.{Form}
+use Rattle.cep_rows.specs.declared.cause.RowCause.TheVariants.{LineTooLong}
 use Rattle.cep_session.specs.Meaning.{Meaning}
 use Rattle.cep_cli.specs.Records.{record_at, records_of}
-use Rattle.cep_cli.specs.Output.{rows_of, late_row}
+use Rattle.cep_select.specs.Output.{rows_of, late_row}
 
 -- ---- refused lines
 
 -- a line without a record is refused
-abbrev pub refusal_of : Option LineRecord → Option RowCause
-refusal_of None = Some Form
-refusal_of (Some r) = None
+abbrev pub refusal_of : Result LineRecord RowCause → Option RowCause
+refusal_of (Err cause) = Some cause
+refusal_of (Ok r) = None
 
 -- ---- what lines cause
 
@@ -50,7 +50,7 @@ owed_text lag plan records = rows_of plan (added_items plan (ticks_of lag record
 -- the meaning of lines under a plan, with a lag or without
 abbrev pub meaning_of : Option ℕ → Plan → Meaning
 meaning_of lag plan = record {
-  too_long = Form;
+  too_long = LineTooLong;
   refusal = λ before line. refusal_of (record_of_line plan.types (length before + 1) line);
   caused = λ before line. caused_text lag plan (records_of plan.types before) (record_at plan.types (length before + 1) line);
   owed = λ lines. owed_text lag plan (records_of plan.types lines);

@@ -1,26 +1,28 @@
--- What a pattern file says (this project's own).
-use Rattle.std.specs.Prelude.{ℕ, List, Option, Some, None, option_map}
-use Rattle.cep_form.specs.declared.form.PairForm.{PairForm}
-use Rattle.cep_form.specs.Form.{form_in}
-use Rattle.cep_pair.specs.Pair.{strict_pair}
+-- What the bytes of a pattern file come to in each mode (this project's own).
+use Rattle.std.specs.Prelude.{◌≡◌, ℕ, List, Result, Ok, Err}
 use Rattle.cep_plan.specs.declared.plan.Plan.{Plan}
+use Rattle.cep_syntax.specs.declared.fault.SyntaxFault.{SyntaxFault}
+use Rattle.cep_syntax.specs.declared.file.File.{File}
+use Rattle.pattern_rules.specs.declared.rule.Fault.{Fault}
+use Rattle.pattern_file.specs.Reading.{AreReadAs}
+use Rattle.pattern_file.specs.Checked.{ArePlannedAs, ArePrintedAs}
+use Rattle.cep_cli.specs.declared.pattern.PatternStop.{PatternStop}
+use Rattle.cep_cli.specs.declared.pattern.PatternStop.TheVariants.{NoMemory, Failed, Refused}
+use Rattle.cep_cli.specs.declared.words.Mode.{Mode}
+use Rattle.cep_cli.specs.declared.words.Mode.TheVariants.{Run, Check}
 
-abbrev pub plan_of : PairForm → Plan
-plan_of form = strict_pair form.types form.first form.first_of form.second form.second_of
+-- the bytes are refused so
+abbrev pub AreRefused : Mode → List ℕ → Fault → Type 0
+AreRefused Run bytes fault = ArePlannedAs bytes (Err fault)
+AreRefused Check bytes fault = ArePrintedAs bytes (Err fault)
 
--- the plan of a file that is accepted
-abbrev pub plan_in : List ℕ → Option Plan
-plan_in file = option_map plan_of (form_in file)
+-- what is read of the front is read of the whole
+abbrev pub ReadsAlike : List ℕ → List ℕ → Type 0
+ReadsAlike front content = (answer : Result File SyntaxFault) → AreReadAs front answer → AreReadAs content answer
 
--- why a file is refused
-pub record Refusal : Type 0 where
-  pub code : ℕ
-  pub place : ℕ
-
--- A file of another form is refused with code 9 at its start.
-abbrev pub refusal_unless : Option Plan → Option Refusal
-refusal_unless (Some plan) = None
-refusal_unless None = Some (record { code = 9; place = 0 })
-
-abbrev pub refusal_in : List ℕ → Option Refusal
-refusal_in file = refusal_unless (plan_in file)
+-- what an answer tells, where loading may fail and memory may be short
+abbrev pub Tells : {T : Type 0} → (Result T Fault → Type 0) → Result T PatternStop → Type 0
+Tells told (Ok value) = told (Ok value)
+Tells told (Err NoMemory) = Unit {0}
+Tells told (Err Failed) = Unit {0}
+Tells told (Err (Refused place code)) = told (Err (record { place = place; code = code }))

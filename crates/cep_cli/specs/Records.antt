@@ -1,14 +1,15 @@
 -- The records of lines (this project's own).
-use Rattle.std.specs.Prelude.{ℕ, ◌+◌, List, [], ◌∷◌, Option, Some, None}
+use Rattle.std.specs.Prelude.{ℕ, ◌+◌, List, [], ◌∷◌, Result, Ok, Err}
 use Rattle.cep_event.specs.declared.event.EventType.{EventType}
 use Rattle.cep_event.specs.declared.record.LineRecord.{LineRecord}
 use Rattle.cep_event.specs.declared.record.LineRecord.TheVariants.{Blank}
-use Rattle.cep_form.specs.Record.{record_of_line}
+use Rattle.cep_records.specs.Record.{record_of_line}
+use Rattle.cep_rows.specs.declared.cause.RowCause.{RowCause}
 
 -- a line that has no record is refused, and no run goes past it
-abbrev pub record_or_blank : Option LineRecord → LineRecord
-record_or_blank None = Blank
-record_or_blank (Some r) = r
+abbrev pub record_or_blank : Result LineRecord RowCause → LineRecord
+record_or_blank (Err cause) = Blank
+record_or_blank (Ok r) = r
 
 abbrev pub record_at : List EventType → ℕ → List ℕ → LineRecord
 record_at types row line = record_or_blank (record_of_line types row line)

@@ -1,7 +1,6 @@
 //! The top call: its words, its pattern file, and the run over its input.
 #![tactic(auto)]
 
-mod output;
 mod pattern;
 mod program;
 mod run;

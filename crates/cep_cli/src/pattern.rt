@@ -1,56 +1,64 @@
-ghost use Rattle.std.specs.Prelude.{◌≡◌, ◌≤◌, ◌<◌, List, ℕ, Some, None, Ok, length, IfOk, IfSome, IsErrOf};
+ghost use Rattle.std.specs.Prelude.{◌≡◌, ◌≢◌, ◌≤◌, List, ℕ, Some, Ok, Err, length, take, IfOk, IsErrOf};
 ghost use Rattle.cep_outside.specs.Outside.{Rose};
-ghost use Rattle.cep_pair.specs.Pair.{IsStrictPair};
-ghost use Rattle.cep_cli.specs.Pattern.{plan_in};
+ghost use Rattle.cep_session.specs.declared.status.Status.{Status};
+ghost use Rattle.pattern_file.specs.Checked.{ArePlannedAs, ArePrintedAs};
+ghost use Rattle.pattern_file.specs.Usable.{IsUsable};
+ghost use Rattle.cep_cli.specs.Pattern.{Tells};
+ghost use Rattle.cep_cli.specs.Stop.{IsToldBy};
 
-use cep_event::NoMemory;
-use cep_form::form_of;
+use cep_event::{NoMemory, Text};
 use cep_outside::{Files, FilesFault};
-use cep_pair::strict_pair_plan;
 use cep_plan::Plan;
+use cep_session::Status;
+use pattern_file::{PatternFault, plan_in, printed_in};
 use std::alloc::Global;
 
 // One byte more than the longest file has, so that a longer one shows.
 const ROOM: usize = 65_537;
 
-/// Why there is no plan.
+/// Why a pattern file comes to nothing.
 #[derive(Clone, Copy, Debug, PartialEq, Eq)]
 pub(crate) enum PatternStop {
     NoMemory,
     Failed,
-    Refused,
+    Refused { place: u32, code: u8 },
 }
 
-fn read_plan(alloc: Global, file: &[u8]) -> Result<Option<Plan>, NoMemory>
-    ensures plan { IfOk result (λ plan. plan ≡ plan_in file.now) }
-    ensures pair { IfOk result (λ plan. IfSome plan (λ p. IsStrictPair p)) }
-    ensures few { IfOk result (λ plan. IfSome plan (λ p. length p.types < 65536)) }
-{
-    match form_of(alloc, file)? {
-        Some(form) => {
-            let plan = strict_pair_plan(
-                alloc,
-                form.types,
-                form.first,
-                form.first_of,
-                form.second,
-                form.second_of,
-            )?;
-            Ok(Some(plan))
+impl PatternStop {
+    ghost use Rattle.cep_cli.specs.Stop.{IsToldBy};
+
+    /// The status that tells of it.
+    pub(crate) fn status(self) -> Status
+        ensures told { IsToldBy self result }
+    {
+        match self {
+            PatternStop::NoMemory => Status::NoMemory,
+            PatternStop::Failed => Status::PatternFault,
+            PatternStop::Refused { place, code } => Status::PatternRefused { code, place },
         }
-        None => Ok(None),
     }
 }
 
-fn accepted(plan: Result<Option<Plan>, NoMemory>) -> Result<Plan, PatternStop>
-    ensures ok { IfOk result (λ made. plan ≡ Ok (Some made)) }
-    ensures refused { IsErrOf result PatternStop.Refused → plan ≡ Ok None }
-    ensures failed { IsErrOf result PatternStop.Failed → ⊥ }
+fn plan_from(alloc: Global, bytes: &[u8]) -> Result<Plan, PatternStop>
+    ensures told { Tells (ArePlannedAs bytes.now) result }
+    ensures usable { IfOk result IsUsable }
+    ensures read { result ≢ Err PatternStop.Failed }
 {
-    match plan {
-        Ok(Some(plan)) => Ok(plan),
-        Ok(None) => Err(PatternStop::Refused),
-        Err(_) => Err(PatternStop::NoMemory),
+    match plan_in(alloc, bytes) {
+        Ok(plan) => Ok(plan),
+        Err(PatternFault::NoMemory) => Err(PatternStop::NoMemory),
+        Err(PatternFault::Bad { place, code }) => Err(PatternStop::Refused { place, code }),
+    }
+}
+
+fn text_from(alloc: Global, bytes: &[u8]) -> Result<Text, PatternStop>
+    ensures told { Tells (ArePrintedAs bytes.now) result }
+    ensures read { result ≢ Err PatternStop.Failed }
+{
+    match printed_in(alloc, bytes) {
+        Ok(text) => Ok(text),
+        Err(PatternFault::NoMemory) => Err(PatternStop::NoMemory),
+        Err(PatternFault::Bad { place, code }) => Err(PatternStop::Refused { place, code }),
     }
 }
 
@@ -61,42 +69,72 @@ fn new_room(alloc: Global) -> Result<Vec<u8>, NoMemory>
     Ok(room)
 }
 
-fn load_into<F: Files>(
+fn plan_into<F: Files>(
     alloc: Global,
     files: &mut F,
     name: &str,
     room: &mut [u8],
 ) -> Result<Plan, PatternStop>
     requires { length room.old ≡ 65537 }
-    ensures plan { (content : List ℕ) → F.contents files.old name.now ≡ Some content → IfOk result (λ plan. plan_in content ≡ Some plan) }
-    ensures refused { (content : List ℕ) → F.contents files.old name.now ≡ Some content → IsErrOf result PatternStop.Refused → plan_in content ≡ None }
-    ensures pair { IfOk result (λ plan. IsStrictPair plan) }
-    ensures few { IfOk result (λ plan. length plan.types < 65536) }
+    ensures told { (content : List ℕ) → F.contents files.old name.now ≡ Some content → Tells (ArePlannedAs content) result }
+    ensures usable { IfOk result IsUsable }
     ensures failed { IsErrOf result PatternStop.Failed → Rose (F.faults files.old name.now) (F.faults files.new name.now) }
     ensures later { (other : List ℕ) → F.faults files.old other ≤ F.faults files.new other }
 {
     match files.load(name, room) {
-        Ok(count) => accepted(read_plan(alloc, &room[..count])),
+        Ok(count) => plan_from(alloc, &room[..count]),
         Err(FilesFault::NoMemory) => Err(PatternStop::NoMemory),
         Err(FilesFault::Failed) => Err(PatternStop::Failed),
     }
 }
 
-/// The plan of the pattern file with the name. `Failed` comes only where the files refused it.
+fn text_into<F: Files>(
+    alloc: Global,
+    files: &mut F,
+    name: &str,
+    room: &mut [u8],
+) -> Result<Text, PatternStop>
+    requires { length room.old ≡ 65537 }
+    ensures told { (content : List ℕ) → F.contents files.old name.now ≡ Some content → Tells (ArePrintedAs content) result }
+    ensures failed { IsErrOf result PatternStop.Failed → Rose (F.faults files.old name.now) (F.faults files.new name.now) }
+    ensures later { (other : List ℕ) → F.faults files.old other ≤ F.faults files.new other }
+{
+    match files.load(name, room) {
+        Ok(count) => text_from(alloc, &room[..count]),
+        Err(FilesFault::NoMemory) => Err(PatternStop::NoMemory),
+        Err(FilesFault::Failed) => Err(PatternStop::Failed),
+    }
+}
+
+/// The plan that is run for the pattern file with the name. `Failed` comes only where the files refused it.
 pub(crate) fn load_plan<F: Files>(
     alloc: Global,
     files: &mut F,
     name: &str,
 ) -> Result<Plan, PatternStop>
-    ensures plan { (content : List ℕ) → F.contents files.old name.now ≡ Some content → IfOk result (λ plan. plan_in content ≡ Some plan) }
-    ensures refused { (content : List ℕ) → F.contents files.old name.now ≡ Some content → IsErrOf result PatternStop.Refused → plan_in content ≡ None }
-    ensures pair { IfOk result (λ plan. IsStrictPair plan) }
-    ensures few { IfOk result (λ plan. length plan.types < 65536) }
+    ensures told { (content : List ℕ) → F.contents files.old name.now ≡ Some content → Tells (ArePlannedAs content) result }
+    ensures usable { IfOk result IsUsable }
     ensures failed { IsErrOf result PatternStop.Failed → Rose (F.faults files.old name.now) (F.faults files.new name.now) }
     ensures later { (other : List ℕ) → F.faults files.old other ≤ F.faults files.new other }
 {
     match new_room(alloc) {
-        Ok(mut room) => load_into(alloc, files, name, &mut room),
+        Ok(mut room) => plan_into(alloc, files, name, &mut room),
+        Err(_) => Err(PatternStop::NoMemory),
+    }
+}
+
+/// The pattern file with the name in its one printed form. `Failed` comes only where the files refused it.
+pub(crate) fn load_text<F: Files>(
+    alloc: Global,
+    files: &mut F,
+    name: &str,
+) -> Result<Text, PatternStop>
+    ensures told { (content : List ℕ) → F.contents files.old name.now ≡ Some content → Tells (ArePrintedAs content) result }
+    ensures failed { IsErrOf result PatternStop.Failed → Rose (F.faults files.old name.now) (F.faults files.new name.now) }
+    ensures later { (other : List ℕ) → F.faults files.old other ≤ F.faults files.new other }
+{
+    match new_room(alloc) {
+        Ok(mut room) => text_into(alloc, files, name, &mut room),
         Err(_) => Err(PatternStop::NoMemory),
     }
 }

@@ -1,90 +1,299 @@
-ghost use Rattle.std.specs.Prelude.{◌≡◌, ◌<◌, ◌^◌, ◌++◌, [], List, ℕ, length, OnOk, None, option_to_list};
-ghost use Rattle.cep_pair.specs.Pair.{IsStrictPair};
-ghost use Rattle.cep_pair.specs.Arrived.{events_in, event_in_record};
-ghost use Rattle.cep_cli.specs.Meaning.{meaning_of};
-ghost use Rattle.cep_cli.specs.Records.{records_of};
+ghost use Rattle.std.specs.Prelude.{◌≡◌, ◌≤◌, ◌<◌, ◌^◌, ◌++◌, ◌∷◌, [], List, ℕ, length, map, IsTrue, IfOk, OnOk, Option, if◌then◌else◌, All};
+ghost use Rattle.std.specs.List.{AllByRecursion as Each, list_all};
+ghost use Rattle.cep_event.specs.declared.event.Event.{Event};
+ghost use Rattle.cep_event.specs.declared.record.Moment.TheVariants.{At, End};
+ghost use Rattle.cep_event.specs.declared.record.LineRecord.{LineRecord};
+ghost use Rattle.cep_event.specs.declared.record.LineRecord.TheVariants.{Blank, Mark, Row};
+ghost use Rattle.cep_plan.specs.EventTime.{Arrival, arrived, marked, is_late, marks_behind, released, arrivals_of, ticks_of};
+ghost use Rattle.cep_plan.specs.Tick.{Tick, event_tick, mark_tick};
+ghost use Rattle.cep_engine.specs.Standing.{kept_at};
+ghost use Rattle.cep_engine.specs.State.{StandsFor};
+ghost use Rattle.cep_select.specs.Output.{late_row, rows_of};
+ghost use Rattle.cep_select.specs.Pieces.{IsShort};
+ghost use Rattle.watermark_order.specs.Order.{order_of, ready, settled, event_times};
+ghost use Rattle.cep_cli.specs.Run.{ComesBehind, HasGone};
+ghost use Rattle.cep_cli.specs.Short.{is_short};
+ghost use Rattle.cep_cli.specs.Ticks.{HasTaken, HasMet};
 
-use crate::output::rows_of;
-use cep_event::{ByteList, LineRecord, NoMemory};
-use cep_form::record_of;
-use cep_pair::{EventList, pairs_at_end};
-use cep_plan::Plan;
+use cep_engine::Engine;
+use cep_event::{ByteList, Event, LineRecord, NoMemory};
+use cep_plan::{Item, ItemList, Plan};
+use cep_records::{RowFault, record_of};
 use cep_rows::Line;
+use cep_select::{late_row, rows_of};
 use cep_session::{Handler, LineFault, RowCause};
 use std::alloc::Global;
+use watermark_order::{Arrived, Order};
 
-/// A run under a strict pair. There are no marks before the end, so each event waits for it.
+// Hands an event to the engine.
+fn feed(engine: &mut Engine, event: Event) -> Result<(), NoMemory>
+    ensures plan { engine.new.plan ≡ engine.old.plan }
+    ensures taken { (ticks : List Tick) → StandsFor ticks engine.old → IfOk result (λ done. HasTaken ticks (event_tick event ∷ []) engine.old engine.new) }
+{
+    if !engine.may_come(event.ts) || engine.count() == u32::MAX {
+        return Err(NoMemory);
+    }
+    match engine.event(event) {
+        Ok(()) => Ok(()),
+        Err(_) => Err(NoMemory),
+    }
+}
+
+// Hands a mark to the engine.
+fn close(engine: &mut Engine, time: i64) -> Result<(), NoMemory>
+    ensures plan { engine.new.plan ≡ engine.old.plan }
+    ensures taken { (ticks : List Tick) → StandsFor ticks engine.old → IfOk result (λ done. HasTaken ticks (mark_tick (At time) ∷ []) engine.old engine.new) }
+{
+    if !engine.may_come(time) {
+        return Err(NoMemory);
+    }
+    match engine.mark(time) {
+        Ok(()) => Ok(()),
+        Err(_) => Err(NoMemory),
+    }
+}
+
+// Hands all events that are ready to the engine.
+fn release(order: &mut Order, engine: &mut Engine) -> Result<(), NoMemory>
+    ensures plan { engine.new.plan ≡ engine.old.plan }
+    ensures settled { OnOk result (order.new ≡ settled order.old) }
+    ensures taken { (ticks : List Tick) → StandsFor ticks engine.old → IfOk result (λ done. HasTaken ticks (map event_tick (ready order.old)) engine.old engine.new) }
+{
+    while let Some(event) = order.next_ready() {
+        feed(engine, event)?;
+    }
+    Ok(())
+}
+
+// Takes a mark: where it rises, the events that it releases go to the engine, and then the mark itself.
+fn raise(order: &mut Order, engine: &mut Engine, time: i64) -> Result<(), NoMemory>
+    ensures plan { engine.new.plan ≡ engine.old.plan }
+    ensures met { (lag : Option ℕ) (arrivals : List Arrival) (ticks : List Tick) → order.old ≡ order_of lag arrivals → StandsFor ticks engine.old
+        → IfOk result (λ done. HasMet lag arrivals (marked time ∷ []) ticks engine.old engine.new order.new) }
+{
+    if !order.mark(time) {
+        return Ok(());
+    }
+    release(order, engine)?;
+    close(engine, time)?;
+    Ok(())
+}
+
+// Takes an event, and gives the row that tells of it where it is late.
+fn admit(alloc: Global, order: &mut Order, event: Event) -> Result<ByteList, NoMemory>
+    requires rows { Each (λ waiting. waiting.row < event.row) order.old.waiting }
+    ensures text { (lag : Option ℕ) (arrivals : List Arrival) → order.old ≡ order_of lag arrivals
+        → IfOk result (λ text. text ≡ (if is_late arrivals event then late_row event.row else [])) }
+    ensures order { (lag : Option ℕ) (arrivals : List Arrival) → order.old ≡ order_of lag arrivals
+        → IfOk result (λ text. order.new ≡ order_of lag (arrivals ++ arrived event ∷ [])) }
+{
+    match order.arrive(event)? {
+        Arrived::Late(row) => late_row(alloc, row),
+        Arrived::Kept => Ok(ByteList::new(alloc)),
+    }
+}
+
+// Takes the mark that the lag adds behind the event that came last.
+fn follow(order: &mut Order, engine: &mut Engine) -> Result<(), NoMemory>
+    ensures plan { engine.new.plan ≡ engine.old.plan }
+    ensures met { (lag : Option ℕ) (before : List Arrival) (event : Event) (ticks : List Tick) → order.old ≡ order_of lag (before ++ arrived event ∷ []) → StandsFor ticks engine.old
+        → IfOk result (λ done. HasMet lag (before ++ arrived event ∷ []) (marks_behind lag (event_times before) event.ts) ticks engine.old engine.new order.new) }
+{
+    match order.lag_mark() {
+        Some(time) => raise(order, engine, time),
+        None => Ok(()),
+    }
+}
+
+// Takes a mark of the input.
+fn take_mark(
+    alloc: Global,
+    order: &mut Order,
+    engine: &mut Engine,
+    time: i64,
+) -> Result<ByteList, NoMemory>
+    ensures plan { engine.new.plan ≡ engine.old.plan }
+    ensures gone { (lag : Option ℕ) (records : List LineRecord) → order.old ≡ order_of lag (arrivals_of lag records) → StandsFor (ticks_of lag records) engine.old
+        → IfOk result (λ text. HasGone lag records (Mark time) text engine.old engine.new order.new) }
+{
+    raise(order, engine, time)?;
+    Ok(ByteList::new(alloc))
+}
+
+// Takes an event of the input, and the mark that the lag adds behind it.
+fn take_event(
+    alloc: Global,
+    order: &mut Order,
+    engine: &mut Engine,
+    event: Event,
+) -> Result<ByteList, NoMemory>
+    requires rows { Each (λ waiting. waiting.row < event.row) order.old.waiting }
+    ensures plan { engine.new.plan ≡ engine.old.plan }
+    ensures gone { (lag : Option ℕ) (records : List LineRecord) → order.old ≡ order_of lag (arrivals_of lag records) → StandsFor (ticks_of lag records) engine.old
+        → IfOk result (λ text. HasGone lag records (Row event) text engine.old engine.new order.new) }
+{
+    let text = admit(alloc, order, event)?;
+    follow(order, engine)?;
+    Ok(text)
+}
+
+// Takes the record of a line, and gives the row that tells of an event that is late.
+fn take_record(
+    alloc: Global,
+    order: &mut Order,
+    engine: &mut Engine,
+    next: LineRecord,
+) -> Result<ByteList, NoMemory>
+    requires { ComesBehind order.old.waiting next }
+    ensures plan { engine.new.plan ≡ engine.old.plan }
+    ensures gone { (lag : Option ℕ) (records : List LineRecord) → order.old ≡ order_of lag (arrivals_of lag records) → StandsFor (ticks_of lag records) engine.old
+        → IfOk result (λ text. HasGone lag records next text engine.old engine.new order.new) }
+{
+    match next {
+        LineRecord::Blank => Ok(ByteList::new(alloc)),
+        LineRecord::Mark(time) => take_mark(alloc, order, engine, time),
+        LineRecord::Row(event) => take_event(alloc, order, engine, event),
+    }
+}
+
+// Whether the item has no more entries than 32 bits can count.
+fn is_short(item: &Item) -> bool
+    ensures { result ≡ is_short item.now }
+{
+    match item {
+        Item::Match(list) => list.len() <= u32::MAX as usize,
+        Item::Timeout(list) => list.len() <= u32::MAX as usize,
+    }
+}
+
+fn are_all_short(items: &ItemList) -> bool
+    ensures { result ≡ list_all is_short items.now }
+{
+    for item in items.as_slice() {
+        if !is_short(item) {
+            return false;
+        }
+    }
+    true
+}
+
+fn are_short(items: &ItemList) -> bool
+    ensures { IsTrue result → All IsShort items.now }
+{
+    are_all_short(items)
+}
+
+// The rows of items.
+fn rows_under(alloc: Global, plan: &Plan, items: &ItemList) -> Result<ByteList, NoMemory>
+    requires { length plan.now.stages ≤ 65536 }
+    ensures { IfOk result (λ text. text ≡ rows_of plan.now items.now) }
+{
+    if !are_short(items) {
+        return Err(NoMemory);
+    }
+    rows_of(alloc, plan, items)
+}
+
+// The rows of the end, where the engine has all events.
+fn owed(alloc: Global, engine: Engine) -> Result<ByteList, NoMemory>
+    requires { length engine.plan.stages ≤ 65536 }
+    ensures { (ticks : List Tick) → StandsFor ticks engine → IfOk result (λ text. text ≡ rows_of engine.plan (engine.items ++ kept_at engine.plan ticks (mark_tick End))) }
+{
+    match engine.end_with_plan() {
+        Ok((plan, items)) => rows_under(alloc, &plan, &items),
+        Err(_) => Err(NoMemory),
+    }
+}
+
+/// A run under a plan: what arrives is ordered by event time, and the engine takes the ticks.
 #[derive(Drop)]
-pub(crate) struct PairRun {
+pub(crate) struct EngineRun {
     pub(crate) alloc: Global,
-    pub(crate) plan: Plan,
-    pub(crate) events: EventList,
+    pub(crate) order: Order,
+    pub(crate) engine: Engine,
     pub(crate) handled: u32,
 }
 
-impl PairRun {
-    ghost use Rattle.cep_session.specs.Meaning.{Meaning};
+impl EngineRun {
+    ghost use Rattle.std.specs.Prelude.{◌≡◌, ◌≤◌, ◌<◌, ◌++◌, ◌∷◌, [], List, ℕ, length, IfOk, OnOk, Option};
+    ghost use Rattle.std.specs.List.{AllByRecursion as Each};
+    ghost use Rattle.cep_event.specs.declared.record.LineRecord.{LineRecord};
+    ghost use Rattle.cep_plan.specs.EventTime.{arrivals_of, ticks_of};
+    ghost use Rattle.cep_engine.specs.State.{StandsFor};
+    ghost use Rattle.pattern_file.specs.Usable.{IsUsable};
+    ghost use Rattle.watermark_order.specs.Order.{order_of};
+    ghost use Rattle.cep_cli.specs.Meaning.{meaning_of, caused_text};
+    ghost use Rattle.cep_cli.specs.Run.{ComesBehind, HasRun};
 
-    pub(crate) fn new(alloc: Global, plan: Plan) -> PairRun
-        ensures plan { result.plan ≡ plan }
-        ensures events { result.events ≡ [] }
-        ensures none { result.handled ≡ 0 }
+    /// A run that has handled no line.
+    pub(crate) fn new(alloc: Global, lag: Option<u64>, plan: Plan) -> Result<EngineRun, NoMemory>
+        requires { IsUsable plan }
+        ensures { IfOk result (λ run. HasRun (meaning_of lag plan) run.order run.engine run.handled []) }
     {
-        PairRun {
+        Ok(EngineRun {
             alloc,
-            plan,
-            events: EventList::new(alloc),
+            order: Order::new(alloc, lag),
+            engine: Engine::new(alloc, plan)?,
             handled: 0,
-        }
+        })
     }
 
-    // Keeps the event of a record, if it has one.
-    fn keep(&mut self, line: LineRecord) -> Result<(), NoMemory>
-        ensures events { OnOk result (self.new.events ≡ self.old.events ++ option_to_list (event_in_record line)) }
-        ensures plan { self.new.plan ≡ self.old.plan }
+    // The text that a record causes.
+    fn caused(&mut self, next: LineRecord) -> Result<ByteList, NoMemory>
+        requires rows { ComesBehind self.old.order.waiting next }
+        requires few { length self.old.engine.plan.stages ≤ 65536 }
+        ensures plan { self.new.engine.plan ≡ self.old.engine.plan }
         ensures handled { self.new.handled ≡ self.old.handled }
+        ensures caused { (lag : Option ℕ) (records : List LineRecord) → self.old.order ≡ order_of lag (arrivals_of lag records) → StandsFor (ticks_of lag records) self.old.engine → self.old.engine.items ≡ []
+            → IfOk result (λ text. text ≡ caused_text lag self.old.engine.plan records next) }
+        ensures order { (lag : Option ℕ) (records : List LineRecord) → self.old.order ≡ order_of lag (arrivals_of lag records) → StandsFor (ticks_of lag records) self.old.engine
+            → IfOk result (λ text. self.new.order ≡ order_of lag (arrivals_of lag (records ++ next ∷ []))) }
+        ensures engine { (lag : Option ℕ) (records : List LineRecord) → self.old.order ≡ order_of lag (arrivals_of lag records) → StandsFor (ticks_of lag records) self.old.engine
+            → IfOk result (λ text. StandsFor (ticks_of lag (records ++ next ∷ [])) self.new.engine) }
+        ensures items { OnOk result (self.new.engine.items ≡ []) }
     {
-        match line {
-            LineRecord::Row(event) => self.events.push(event),
-            _ => Ok(()),
-        }
+        let mut text = take_record(self.alloc, &mut self.order, &mut self.engine, next)?;
+        let items = self.engine.items();
+        let rows = rows_under(self.alloc, self.engine.plan(), &items)?;
+        text.extend(rows.as_slice())?;
+        Ok(text)
     }
 }
 
-impl Handler for PairRun {
-    ghost stands = { λ s m lines. (m ≡ meaning_of None s.plan)
-        × (s.events ≡ events_in (records_of s.plan.types lines))
-        × (s.handled ≡ length lines)
-        × IsStrictPair s.plan
-        × (length s.plan.types < 65536)
-        × (length lines < 2 ^ 32) };
+impl Handler for EngineRun {
+    ghost use Rattle.cep_cli.specs.Run.{HasRun};
+
+    ghost stands = { λ s m lines. HasRun m s.order s.engine s.handled lines };
 
     fn too_long(&self) -> RowCause {
-        RowCause::Form
+        RowCause::LineTooLong
     }
 
     fn line(&mut self, line: &Line) -> Result<ByteList, LineFault> {
         let row = self.handled + 1;
-        let Some(record) = record_of(self.alloc, &self.plan.types, row, line.as_slice()) else {
-            return Err(LineFault::Refused(RowCause::Form));
+        let next = match record_of(self.alloc, self.engine.plan(), line, row) {
+            Ok(next) => next,
+            Err(RowFault::NoMemory) => return Err(LineFault::NoMemory),
+            Err(RowFault::Bad(cause)) => return Err(LineFault::Refused(cause)),
         };
-        match self.keep(record) {
-            Ok(()) => {
+        match self.caused(next) {
+            Ok(text) => {
                 self.handled = row;
-                Ok(ByteList::new(self.alloc))
+                Ok(text)
             }
             Err(_) => Err(LineFault::NoMemory),
         }
     }
 
     fn end(self) -> Result<ByteList, NoMemory> {
-        let PairRun {
+        let EngineRun {
             alloc,
-            plan,
-            events,
+            mut order,
+            mut engine,
             handled: _,
         } = self;
-        let items = pairs_at_end(alloc, &plan, events)?;
-        rows_of(alloc, &plan, &items)
+        order.end();
+        release(&mut order, &mut engine)?;
+        owed(alloc, engine)
     }
 }

@@ -114,6 +114,13 @@ impl Engine {
         }
     }
 
+    /// The pattern's plan.
+    pub fn plan(&self) -> &Plan
+        ensures { result.now ≡ self.now.plan }
+    {
+        &self.plan
+    }
+
     /// How many events were taken.
     pub fn count(&self) -> u32
         ensures { result ≡ self.now.runs.position }
@@ -235,6 +242,41 @@ impl Engine {
             Ok(items) => Ok(items),
             Err(NoMemory) => Err(EngineFault::NoMemory),
         }
+    }
+
+    /// Ends the input as `end` does, and gives the plan back.
+    pub fn end_with_plan(self) -> Result<(Plan, ItemList), EngineFault>
+        ensures spent { (result ≡ Err Spent) ↔ (self.spent ≡ true) }
+        ensures plan { IfOk result (λ ended. ended.0 ≡ self.plan) }
+        ensures items { (ticks : List Tick) → StandsFor ticks self → IfOk result (λ ended. ended.1 ≡ self.items ++ kept_at self.plan ticks (mark_tick End)) }
+    {
+        if self.spent {
+            return Err(EngineFault::Spent);
+        }
+        match self.parted() {
+            Ok(ended) => Ok(ended),
+            Err(NoMemory) => Err(EngineFault::NoMemory),
+        }
+    }
+
+    /// The plan, and the items not yet handed out with those of the end.
+    fn parted(self) -> Result<(Plan, ItemList), NoMemory>
+        requires fresh { self.spent ≡ false }
+        ensures plan { IfOk result (λ ended. ended.0 ≡ self.plan) }
+        ensures items { (ticks : List Tick) → StandsFor ticks self → IfOk result (λ ended. ended.1 ≡ self.items ++ kept_at self.plan ticks (mark_tick End)) }
+    {
+        let mut engine = self;
+        engine.spent = true;
+        let made = take_mark(
+            &mut engine.runs,
+            &mut engine.limits,
+            &engine.plan,
+            Moment::End,
+            engine.alloc,
+        )?;
+        append(&mut engine.items, made)?;
+        let Engine { plan, items, .. } = engine;
+        Ok((plan, items))
     }
 
     /// The items not yet handed out, and then those of the end.

@@ -4,7 +4,7 @@ use Rattle.std.specs.Prelude.{Option, Result, Ok, Err}
 use Rattle.std.proofs.lemmas.List.{append-nil}
 use Rattle.cep_event.specs.declared.event.Field.{Field}
 use Rattle.cep_event.specs.declared.value.Value.{Value}
-use Rattle.cep_records.specs.declared.cause.RowCause.{RowCause}
+use Rattle.cep_rows.specs.declared.cause.RowCause.{RowCause}
 use Rattle.cep_records.specs.Record.{field_at, value_in, value_and_values, values_in}
 
 -- values, with these before them

@@ -7,12 +7,12 @@ use Rattle.std.specs.Str.{bytes_eq, is_utf8}
 abbrev pub byte_order_mark : List ℕ
 byte_order_mark = 0xEF ∷ 0xBB ∷ 0xBF ∷ []
 
-abbrev pub begins_with_byte_order_mark : List ℕ → Bool
-begins_with_byte_order_mark line = bytes_eq (take 3 line) byte_order_mark
+abbrev pub begins_with_mark : List ℕ → Bool
+begins_with_mark line = bytes_eq (take 3 line) byte_order_mark
 
 -- the first row without a byte order mark before it
-abbrev pub without_byte_order_mark : ℕ → List ℕ → List ℕ
-without_byte_order_mark row line = if row == 1 && begins_with_byte_order_mark line then drop 3 line else line
+abbrev pub without_mark : ℕ → List ℕ → List ℕ
+without_mark row line = if row == 1 && begins_with_mark line then drop 3 line else line
 
 abbrev pub ends_with_return : List ℕ → Bool
 ends_with_return line = bytes_eq (drop (length line - 1) line) (13 ∷ [])
@@ -23,7 +23,7 @@ without_return line = if ends_with_return line then take (length line - 1) line 
 
 -- what is read of a line with this row number
 abbrev pub bare_line : ℕ → List ℕ → List ℕ
-bare_line row line = without_return (without_byte_order_mark row line)
+bare_line row line = without_return (without_mark row line)
 
 abbrev pub is_return : ℕ → Bool
 is_return byte = byte == 13
@@ -33,7 +33,7 @@ is_quote byte = byte == 34
 
 -- UTF-8 that has no CR in it and no byte order mark before it
 abbrev pub is_text : List ℕ → Bool
-is_text line = is_utf8 line && not (list_any is_return line) && not (begins_with_byte_order_mark line)
+is_text line = is_utf8 line && not (list_any is_return line) && not (begins_with_mark line)
 
 -- an odd number of quotes
 abbrev pub has_open_quote : List ℕ → Bool

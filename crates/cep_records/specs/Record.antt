@@ -11,8 +11,8 @@ use Rattle.cep_event.specs.declared.value.Kind.TheVariants as kind
 use Rattle.cep_event.specs.declared.value.Value.{Value}
 use Rattle.cep_event.specs.declared.value.Value.TheVariants as value
 use Rattle.line_fields.specs.Line.{fields_of_line}
-use Rattle.cep_records.specs.declared.cause.RowCause.{RowCause}
-use Rattle.cep_records.specs.declared.cause.RowCause.TheVariants as cause
+use Rattle.cep_rows.specs.declared.cause.RowCause.{RowCause}
+use Rattle.cep_rows.specs.declared.cause.RowCause.TheVariants as cause
 use Rattle.cep_records.specs.Bare.{bare_line, is_text, has_open_quote}
 use Rattle.cep_records.specs.Number.{number_in}
 

@@ -1,7 +1,7 @@
 ghost use Rattle.std.specs.Prelude.{◌≡◌, IsTrue, IsUtf8};
 ghost use Rattle.std.specs.List.{list_any, count_by};
 ghost use Rattle.std.specs.Str.{is_utf8};
-ghost use Rattle.cep_records.specs.Bare.{begins_with_byte_order_mark, without_byte_order_mark, without_return, bare_line, is_text, is_return, is_quote, has_open_quote};
+ghost use Rattle.cep_records.specs.Bare.{begins_with_mark, without_mark, without_return, bare_line, is_text, is_return, is_quote, has_open_quote};
 
 use std::str;
 
@@ -12,11 +12,11 @@ const BYTE_ORDER_MARK: [u8; 3] = [0xEF, 0xBB, 0xBF];
 pub(crate) fn bare_line(row: u32, line: &[u8]) -> &[u8]
     ensures { result.now ≡ bare_line row line.now }
 {
-    without_return(without_byte_order_mark(row, line))
+    without_return(without_mark(row, line))
 }
 
-fn without_byte_order_mark(row: u32, line: &[u8]) -> &[u8]
-    ensures { result.now ≡ without_byte_order_mark row line.now }
+fn without_mark(row: u32, line: &[u8]) -> &[u8]
+    ensures { result.now ≡ without_mark row line.now }
 {
     if row != 1 {
         return line;
@@ -36,8 +36,8 @@ fn without_return(line: &[u8]) -> &[u8]
     }
 }
 
-fn begins_with_byte_order_mark(line: &[u8]) -> bool
-    ensures { result ≡ begins_with_byte_order_mark line.now }
+fn begins_with_mark(line: &[u8]) -> bool
+    ensures { result ≡ begins_with_mark line.now }
 {
     line.strip_prefix(&BYTE_ORDER_MARK).is_some()
 }
@@ -63,7 +63,7 @@ pub(crate) fn is_text(line: &[u8]) -> bool
     ensures value { result ≡ is_text line.now }
     ensures utf8 { IsTrue result → IsUtf8 line.now }
 {
-    is_utf8(line) && !holds_return(line) && !begins_with_byte_order_mark(line)
+    is_utf8(line) && !holds_return(line) && !begins_with_mark(line)
 }
 
 fn quotes_in(line: &[u8]) -> usize

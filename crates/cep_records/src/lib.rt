@@ -9,5 +9,6 @@ mod reading;
 mod tests;
 mod values;
 
-pub use cause::{RowCause, RowFault};
+pub use cause::RowFault;
+pub use cep_rows::RowCause;
 pub use reading::record_of;

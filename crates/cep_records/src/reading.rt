@@ -5,12 +5,12 @@ ghost use Rattle.cep_records.specs.Numbered.{AreNumbered};
 ghost use Rattle.cep_records.specs.Record.{field_at, mark_of, type_named, event_at, event_of_type, event_if, record_of_fields, record_of_line};
 
 use crate::bare::{bare_line, has_open_quote, is_text};
-use crate::cause::{RowCause, RowFault};
+use crate::cause::RowFault;
 use crate::number::number_in;
 use crate::values::{field_at, values_of};
 use cep_event::{Event, EventType, Field, LineRecord};
 use cep_plan::Plan;
-use cep_rows::Line;
+use cep_rows::{Line, RowCause};
 use line_fields::{Fields, read_fields};
 use std::alloc::Global;
 

@@ -80,7 +80,9 @@ fn a_line_has_at_most_its_limit(rt: HostRuntime) -> Result<(), Fail> {
         let refused = cut(rt.alloc(), more.as_slice(), piece)?;
         assert!(rt; refused.as_slice().first() == Some(&b'!'));
     }
-    assert!(rt; RowCause::Form.number() == 8);
+    assert!(rt; RowCause::LineTooLong.number() == 1);
+    assert!(rt; RowCause::BadTime.number() == 6);
+    assert!(rt; RowCause::BadNumber(3).number() == 7);
     lines_from_the_front();
     Ok(())
 }

@@ -1,7 +1,7 @@
 ghost use Rattle.std.specs.Prelude.{◌≡◌, ◌+◌, ◌≤◌, [], ◌++◌, length};
 ghost use Rattle.std.specs.Io.KnownBytes.{Appends};
 ghost use Rattle.cep_outside.specs.Outside.{Rose, AppendsPart};
-ghost use Rattle.cep_session.specs.Notes.{cause_text, fault_line};
+ghost use Rattle.cep_session.specs.Notes.{field_text, cause_text, fault_line};
 
 use crate::Status;
 use cep_outside::{Sink, write_all};
@@ -58,14 +58,28 @@ impl Note {
     }
 }
 
+// Appends the words for the field of a cause, where it has one.
+fn push_field(note: &mut Note, cause: RowCause)
+    requires { length note.old ≤ 80 }
+    ensures text { note.new ≡ note.old ++ field_text cause }
+    ensures short { length note.new ≤ length note.old + 40 }
+{
+    if let RowCause::BadNumber(field) = cause {
+        let mut digits = Buffer::new();
+        note.push(b" in field ");
+        note.push(digits.format(field).as_bytes());
+    }
+}
+
 // Appends the words of a cause.
 fn push_cause(note: &mut Note, cause: RowCause)
-    requires { length note.old ≤ 100 }
+    requires { length note.old ≤ 60 }
     ensures text { note.new ≡ note.old ++ cause_text cause }
-    ensures short { length note.new ≤ length note.old + 20 }
+    ensures short { length note.new ≤ length note.old + 60 }
 {
     let mut digits = Buffer::new();
     note.push(digits.format(cause.number()).as_bytes());
+    push_field(note, cause);
 }
 
 fn row_note(row: u32, cause: RowCause) -> Note

@@ -1,5 +1,5 @@
 ghost use Rattle.std.specs.Prelude.{◌≡◌, ◌<◌, ◌==◌, ◌++◌, ◌∷◌, [], if◌then◌else◌, Some, None, codes, slice_index_or, IfOk};
-ghost use Rattle.cep_rows.specs.declared.cause.RowCause.TheVariants.{Form};
+ghost use Rattle.cep_rows.specs.declared.cause.RowCause.TheVariants.{UnknownType};
 
 use super::*;
 use cep_event::{ByteList, CallList, NoMemory};
@@ -32,15 +32,15 @@ fn printed(alloc: Global, line: &[u8]) -> Result<ByteList, NoMemory>
 }
 
 impl Handler for Printer {
-    ghost stands = { λ s m lines. m ≡ record { too_long = Form; refusal = λ before line. if slice_index_or line 0 0 == 33 then Some Form else None; caused = λ before line. line ++ 10 ∷ []; owed = λ lines. codes "end\n" } };
+    ghost stands = { λ s m lines. m ≡ record { too_long = UnknownType; refusal = λ before line. if slice_index_or line 0 0 == 33 then Some UnknownType else None; caused = λ before line. line ++ 10 ∷ []; owed = λ lines. codes "end\n" } };
 
     fn too_long(&self) -> RowCause {
-        RowCause::Form
+        RowCause::UnknownType
     }
 
     fn line(&mut self, line: &Line) -> Result<ByteList, LineFault> {
         if is_refused(line.as_slice()) {
-            return Err(LineFault::Refused(RowCause::Form));
+            return Err(LineFault::Refused(RowCause::UnknownType));
         }
         match printed(self.alloc, line.as_slice()) {
             Ok(text) => Ok(text),
@@ -93,7 +93,7 @@ fn holds(alloc: Global, case: &Case, piece: usize) -> Result<bool, NoMemory>
 
 const BAD_SECOND: Status = Status::BadRow {
     row: 2,
-    cause: RowCause::Form,
+    cause: RowCause::UnknownType,
 };
 
 const CASES: [Case; 10] = [
@@ -135,7 +135,7 @@ const CASES: [Case; 10] = [
         room: 99,
         status: BAD_SECOND,
         output: "a\n",
-        notes: "cep: row 2 refused: cause 8\n",
+        notes: "cep: row 2 refused: cause 4\n",
     },
     Case {
         name: "refused at the end",
@@ -145,7 +145,7 @@ const CASES: [Case; 10] = [
         room: 99,
         status: BAD_SECOND,
         output: "a\n",
-        notes: "cep: row 2 refused: cause 8\n",
+        notes: "cep: row 2 refused: cause 4\n",
     },
     Case {
         name: "many",
@@ -246,7 +246,7 @@ fn a_long_line_is_refused_before_its_end(rt: HostRuntime) -> Result<(), Fail> {
     let ending = run(alloc, Printer { alloc }, 9, &mut input, &mut output);
     let refused = Ending::BadRow {
         row: 1,
-        cause: RowCause::Form,
+        cause: RowCause::UnknownType,
     };
     assert!(rt; ending == refused);
     assert!(rt; input.left().len() == 70000 - 65541);
@@ -273,10 +273,18 @@ const LINES: [(Status, u8, &str); 9] = [
     (
         Status::BadRow {
             row: 4294967295,
-            cause: RowCause::Form,
+            cause: RowCause::UnknownType,
         },
         5,
-        "cep: row 4294967295 refused: cause 8\n",
+        "cep: row 4294967295 refused: cause 4\n",
+    ),
+    (
+        Status::BadRow {
+            row: 4294967295,
+            cause: RowCause::BadNumber(65535),
+        },
+        5,
+        "cep: row 4294967295 refused: cause 7 in field 65535\n",
     ),
     (Status::TooManyRows, 6, "cep: more rows than allowed\n"),
     (Status::ReadFault, 7, "cep: cannot read the input\n"),

@@ -19,22 +19,22 @@ use Rattle.pattern_check.proofs.ListLaws.{both}
 use Rattle.pattern_check.proofs.BoundLaws.{not_broken}
 use Rattle.pattern_check.proofs.FromLaws.{from_none_at}
 
-first_false : (a b : Bool) → (a || b) ≡ false → a ≡ false
+pub first_false : (a b : Bool) → (a || b) ≡ false → a ≡ false
 first_false false b e = refl
 first_false true b e = e
 
-second_false : (a b : Bool) → (a || b) ≡ false → b ≡ false
+pub second_false : (a b : Bool) → (a || b) ≡ false → b ≡ false
 second_false false b e = e
 second_false true b e = absurd (cc)
 
-none_of : {A : Type 0} (p : A → Bool) (xs : List A) (k j : ℕ) (d : A) → list_any p (take k xs) ≡ false → j < k → j < length xs → p (get_or xs j d) ≡ false
+pub none_of : {A : Type 0} (p : A → Bool) (xs : List A) (k j : ℕ) (d : A) → list_any p (take k xs) ≡ false → j < k → j < length xs → p (get_or xs j d) ≡ false
 none_of p [] k j d e h l = absurd (omega arith)
 none_of p (x ∷ xs) zero j d e h l = absurd (omega arith)
 none_of p (x ∷ xs) (suc k) zero d e h l = first_false (p x) (list_any p (take k xs)) e
 none_of p (x ∷ xs) (suc k) (suc j) d e h l = none_of p xs k j d (second_false (p x) (list_any p (take k xs)) e) (omega arith) (omega arith)
 
 -- no name stands twice, so each opener is the first of its name
-own_place : (openers : List Opener) (k : ℕ) (d : Opener) → k < length openers → twice_stage openers ≡ None → opener_number openers (get_or openers k d).name.text ≡ k
+pub own_place : (openers : List Opener) (k : ℕ) (d : Opener) → k < length openers → twice_stage openers ≡ None → opener_number openers (get_or openers k d).name.text ≡ k
 unfolding twice_stage
 own_place openers k d h e =
     let name = (get_or openers k d).name in

@@ -42,7 +42,7 @@ named_type types (Some name) n same e =
     let within : type_number types name.text < n = subst (λ (m : ℕ). type_number types name.text < m) same (place_found (λ d. bytes_eq d.name.text name.text) types found) in
     below (type_number types name.text) n within
 
-begin_positive : (h : OpenKind) → is_begin h ≡ true → is_negated h ≡ false
+pub begin_positive : (h : OpenKind) → is_begin h ≡ true → is_negated h ≡ false
 begin_positive how.Begin e = refl
 begin_positive how.Next e = refl
 begin_positive how.FollowedBy e = refl
@@ -101,7 +101,7 @@ skip_kept openers (Some (skip.ToLast name)) n same e = stage_found openers name 
 
 -- ---- states
 
-at_most : (m n : ℕ) → nat_lt m n ≡ false → n ≤ m
+pub at_most : (m n : ℕ) → nat_lt m n ≡ false → n ≤ m
 at_most m n e = grind (arith, nat_tests)
 
 states_kept : (openers : List Opener) → too_many_states openers ≡ None → sum_by states_of openers ≤ 1024
@@ -127,7 +127,7 @@ open_stages fields file o = by_case (is_negated o.how)
     by_case true = inr refl
     by_case false = inl (fewer_states (bounds_of o.mods))
 
-behind_is : (fields : List Field) (file : File) (o : Opener) → (negation_of fields file o).after ≡ stages_before file.openers o.name.text - 1
+pub behind_is : (fields : List Field) (file : File) (o : Opener) → (negation_of fields file o).after ≡ stages_before file.openers o.name.text - 1
 unfolding negation_of
 behind_is fields file o = refl
 

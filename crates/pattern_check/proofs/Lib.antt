@@ -7,5 +7,16 @@ pub mod FromLaws
 pub mod AfterLaws
 pub mod SoundLaws
 pub mod StageLaws
+pub mod KeepLaws
 pub mod NumberedLaws
 pub mod ExpressionLaws
+pub mod NameLaws
+pub mod UntilLaws
+pub mod PlaceLaws
+pub mod LaterLaws
+pub mod KnownLaws
+pub mod FieldNumberLaws
+pub mod SortLaws
+pub mod FieldSortLaws
+pub mod SortedLaws
+pub mod Samples

@@ -26,6 +26,7 @@ use Rattle.pattern_check.proofs.ListLaws.{both, right_of}
 use Rattle.pattern_check.proofs.BoundLaws.{not_broken}
 use Rattle.pattern_check.proofs.StageLaws.{double_not, below, found_positive}
 use Rattle.pattern_check.proofs.SoundLaws.{is_numbered}
+use Rattle.pattern_check.proofs.KeepLaws.{Keeps}
 
 or_so : (a b c d : Bool) → (a ≡ true → c ≡ true) → (b ≡ true → d ≡ true) → (a || b) ≡ true → (c || d) ≡ true
 or_so true b c d f g e = ap (λ x. x || d) (f refl)
@@ -102,13 +103,13 @@ module _ (file : File) where
   abbrev fields : List Field
   fields = known_fields file.types
 
-  had_somewhere : (of : Option Name) (name : List ℕ) → may_have file.types fields of name ≡ true → is_somewhere file.types name ≡ true
+  pub had_somewhere : (of : Option Name) (name : List ℕ) → may_have file.types fields of name ≡ true → is_somewhere file.types name ≡ true
   had_somewhere None name e = known_somewhere name file.types e
   had_somewhere (Some type) name e =
       any_so (λ d. bytes_eq d.name.text type.text && is_declared d.fields name) (λ d. is_declared d.fields name)
       (λ d h. right_of (bytes_eq d.name.text type.text) (is_declared d.fields name) h) file.types e
 
-  field_somewhere : (spot : Site) (name : List ℕ) → is_unknown_field file fields spot name ≡ false → is_somewhere file.types name ≡ true
+  pub field_somewhere : (spot : Site) (name : List ℕ) → is_unknown_field file fields spot name ≡ false → is_somewhere file.types name ≡ true
   field_somewhere (site.Condition k) name e = had_somewhere (type_of (slice_get file.openers k)) name (double_not (may_have file.types fields (type_of (slice_get file.openers k)) name) e)
   field_somewhere (site.Until k) name e = known_somewhere name file.types (double_not (is_known fields name) e)
   field_somewhere site.Select name e = absurd (cc)
@@ -117,23 +118,24 @@ module _ (file : File) where
   positive_found None e h = absurd (cc)
   positive_found (Some o) e h = ap not h
 
-  module _ (n : ℕ) (count : length (filter is_positive file.openers) ≡ n) where
-    stage_numbered : (spot : Site) (name : Name) → bad_name rule.UnknownName file.openers spot name ≡ None → bad_name rule.NegatedName file.openers spot name ≡ None → nat_lt (stages_before file.openers name.text) n ≡ true
-    stage_numbered spot name e h =
-        let found = slice_get file.openers (opener_number file.openers name.text) in
-        let is = positive_found (slice_get file.openers (opener_number file.openers name.text)) (not_broken (is_none (slice_get file.openers (opener_number file.openers name.text))) name.place e) (not_broken (is_negated_one (slice_get file.openers (opener_number file.openers name.text))) name.place h) in
-        below (stages_before file.openers name.text) n (subst (λ (m : ℕ). stages_before file.openers name.text < m) count (found_positive file.openers (opener_number file.openers name.text) is))
+  pub positive_name : (spot : Site) (name : Name) → bad_name rule.UnknownName file.openers spot name ≡ None → bad_name rule.NegatedName file.openers spot name ≡ None → is_positive_one (slice_get file.openers (opener_number file.openers name.text)) ≡ true
+  positive_name spot name e h =
+      positive_found (slice_get file.openers (opener_number file.openers name.text)) (not_broken (is_none (slice_get file.openers (opener_number file.openers name.text))) name.place e) (not_broken (is_negated_one (slice_get file.openers (opener_number file.openers name.text))) name.place h)
 
-    field_numbered : (name : List ℕ) → is_somewhere file.types name ≡ true → has_field (types_of fields file.types) (field_number fields name) ≡ true
-    field_numbered name e = numbered_field fields name file.types e
+  pub stage_numbered : (n : ℕ) → length (filter is_positive file.openers) ≡ n → (spot : Site) (name : Name) → bad_name rule.UnknownName file.openers spot name ≡ None → bad_name rule.NegatedName file.openers spot name ≡ None → nat_lt (stages_before file.openers name.text) n ≡ true
+  stage_numbered n count spot name e h =
+      below (stages_before file.openers name.text) n (subst (λ (m : ℕ). stages_before file.openers name.text < m) count (found_positive file.openers (opener_number file.openers name.text) (positive_name spot name e h)))
 
-    pub mention_numbered : (spot : Site) (m : Mention) → bad_mention rule.UnknownField file fields spot m ≡ None → bad_mention rule.UnknownName file fields spot m ≡ None → bad_mention rule.NegatedName file fields spot m ≡ None
-        → is_numbered n (types_of fields file.types) fields file.openers m ≡ true
-    mention_numbered spot (a_field name) e g h = field_numbered name.text (field_somewhere spot name.text (not_broken (is_unknown_field file fields spot name.text) name.place e))
-    mention_numbered spot (a_stage name) e g h = stage_numbered spot name g h
-    mention_numbered spot (a_stage_field name field) e g h =
-        let of = type_taken (slice_get file.openers (opener_number file.openers name.text)) in
-        both (nat_lt (stages_before file.openers name.text) n) (has_field (types_of fields file.types) (field_number fields field.text))
-        (stage_numbered spot name g h)
-        (field_numbered field.text (had_somewhere (type_taken (slice_get file.openers (opener_number file.openers name.text))) field.text
-        (double_not (may_have file.types fields (type_taken (slice_get file.openers (opener_number file.openers name.text))) field.text) (not_broken (not (may_have file.types fields (type_taken (slice_get file.openers (opener_number file.openers name.text))) field.text)) field.place e))))
+  field_numbered : (name : List ℕ) → is_somewhere file.types name ≡ true → has_field (types_of fields file.types) (field_number fields name) ≡ true
+  field_numbered name e = numbered_field fields name file.types e
+
+  -- where the names of stages have numbers below the bound, what is mentioned has numbers that the plan has
+  pub mention_numbered : (n : ℕ) (spot : Site) → ((name : Name) → Keeps (λ r. bad_name r file.openers spot name) → nat_lt (stages_before file.openers name.text) n ≡ true)
+      → (m : Mention) → Keeps (λ r. bad_mention r file fields spot m) → is_numbered n (types_of fields file.types) fields file.openers m ≡ true
+  mention_numbered n spot stage (a_field name) h = field_numbered name.text (field_somewhere spot name.text (not_broken (is_unknown_field file fields spot name.text) name.place h.fields_known))
+  mention_numbered n spot stage (a_stage name) h = stage name (record { fields_known = h.fields_known; names_known = h.names_known; names_positive = h.names_positive; none_later = h.none_later })
+  mention_numbered n spot stage (a_stage_field name field) h =
+      both (nat_lt (stages_before file.openers name.text) n) (has_field (types_of fields file.types) (field_number fields field.text))
+      (stage name (record { fields_known = refl; names_known = h.names_known; names_positive = h.names_positive; none_later = h.none_later }))
+      (field_numbered field.text (had_somewhere (type_taken (slice_get file.openers (opener_number file.openers name.text))) field.text
+      (double_not (may_have file.types fields (type_taken (slice_get file.openers (opener_number file.openers name.text))) field.text) (not_broken (not (may_have file.types fields (type_taken (slice_get file.openers (opener_number file.openers name.text))) field.text)) field.place h.fields_known))))

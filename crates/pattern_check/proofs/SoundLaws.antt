@@ -86,7 +86,7 @@ sum_long : (ts : List (Bool × Bool)) → formed.is_sum ts ≡ true → nat_le 2
 sum_long [] e = absurd (cc)
 sum_long ((minus, first) ∷ ts) e = pairs_long first ts (right_of (not minus) (formed.is_chain (first ∷ map (λ t. t.1) ts)) e)
 
-sum_fine : (ts : List (Bool × Bool)) → formed.is_sum ts ≡ true → list_all (λ t. t.1) ts ≡ true
+pub sum_fine : (ts : List (Bool × Bool)) → formed.is_sum ts ≡ true → list_all (λ t. t.1) ts ≡ true
 sum_fine [] e = refl
 sum_fine ((minus, first) ∷ ts) e = pairs_fine first ts (right_of (not minus) (formed.is_chain (first ∷ map (λ t. t.1) ts)) e)
 
@@ -94,7 +94,7 @@ product_long : (fs : List (How × Bool)) → formed.is_product fs ≡ true → n
 product_long [] e = absurd (cc)
 product_long ((way, first) ∷ fs) e = pairs_long first fs (right_of (formed.is_times way) (formed.is_chain (first ∷ map (λ t. t.1) fs)) e)
 
-product_fine : (fs : List (How × Bool)) → formed.is_product fs ≡ true → list_all (λ t. t.1) fs ≡ true
+pub product_fine : (fs : List (How × Bool)) → formed.is_product fs ≡ true → list_all (λ t. t.1) fs ≡ true
 product_fine [] e = refl
 product_fine ((way, first) ∷ fs) e = pairs_fine first fs (right_of (formed.is_times way) (formed.is_chain (first ∷ map (λ t. t.1) fs)) e)
 

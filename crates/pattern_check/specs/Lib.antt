@@ -5,3 +5,7 @@ pub mod Plan
 pub mod Answer
 pub mod Checked
 pub mod Sound
+pub mod Names
+pub mod Places
+pub mod FieldNumbers
+pub mod Sorts

@@ -5,6 +5,10 @@ ghost use Rattle.cep_syntax.specs.WellFormed.{IsWellFormed};
 ghost use Rattle.pattern_check.specs.Answer.{IsAnswer};
 ghost use Rattle.pattern_check.specs.Checked.{IsChecked};
 ghost use Rattle.pattern_check.specs.Sound.{HasSoundExpressions};
+ghost use Rattle.pattern_check.specs.Names.{HasDistinctNames};
+ghost use Rattle.pattern_check.specs.FieldNumbers.{HasNumberedFields};
+ghost use Rattle.pattern_check.specs.Places.{IsPlaced};
+ghost use Rattle.pattern_check.specs.Sorts.{HasSorts};
 
 use crate::fault::CheckFault;
 use crate::plan::plan_with;
@@ -22,6 +26,10 @@ pub fn check(alloc: Global, file: &File) -> Result<Plan, CheckFault>
     ensures answer { IsAnswer file.now result }
     ensures checked { IfOk result IsChecked }
     ensures sound { IfOk result HasSoundExpressions }
+    ensures named { IfOk result HasDistinctNames }
+    ensures numbered { IfOk result HasNumberedFields }
+    ensures placed { IfOk result IsPlaced }
+    ensures sorted { IfOk result HasSorts }
 {
     let fields = known_fields(alloc, file.types.as_slice())?;
     match fault_in(file, &fields) {

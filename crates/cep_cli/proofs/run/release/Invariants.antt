@@ -1,0 +1,17 @@
+-- The events that were handed over, and those that are still ready.
+use Rattle.std.proofs.Common.{◌≡◌, ◌++◌, List, length, map}
+use Rattle.cep_event.specs.declared.event.Event.{Event}
+use Rattle.cep_plan.specs.Tick.{Tick, event_tick}
+use Rattle.cep_engine.specs.State.{StandsFor}
+use Rattle.watermark_order.specs.Order.{ready, settled}
+use Rattle.cep_cli.specs.Ticks.{HasTaken}
+use Rattle.cep_cli.proofs.run.release.Given as goal
+
+abbrev pub invariant-loop-event : goal.invariant-loop-event
+invariant-loop-event l =
+    (settled l.order ≡ settled l.initial.order) × (l.engine.plan ≡ l.initial.engine.plan)
+    × ((ticks : List Tick) → StandsFor ticks l.initial.engine
+    → (handed : List Event) × (ready l.initial.order ≡ handed ++ ready l.order) × HasTaken ticks (map event_tick handed) l.initial.engine l.engine)
+
+abbrev pub decreases-loop-event : goal.decreases-loop-event
+decreases-loop-event l = length l.order.waiting

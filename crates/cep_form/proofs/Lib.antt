@@ -1,2 +1,0 @@
-mod FormLaws
-mod NameLaws

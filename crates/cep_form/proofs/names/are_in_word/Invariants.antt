@@ -1,7 +1,0 @@
-use Rattle.std.proofs.Common.{◌≡◌, true, take}
-use Rattle.std.specs.List.{list_all}
-use Rattle.cep_form.specs.Names.{is_in_word}
-use Rattle.cep_form.proofs.names.are_in_word.Given as goal
-
-abbrev pub invariant-loop-byte : goal.invariant-loop-byte
-invariant-loop-byte l = list_all is_in_word (take l.byte-index l.text) ≡ true

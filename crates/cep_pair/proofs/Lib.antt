@@ -1,3 +1,0 @@
-pub mod PairLaws
-pub mod ArrivedLaws
-pub mod TimeLaws

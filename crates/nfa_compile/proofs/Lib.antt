@@ -1,0 +1,10 @@
+pub mod RangeLaws
+pub mod CountLaws
+pub mod NumberLaws
+pub mod StateListLaws
+pub mod ReachLaws
+pub mod WaitLaws
+pub mod StateNumberLaws
+pub mod AutomatonLaws
+pub mod TextLaws
+pub mod CompilableLaws

@@ -1,0 +1,4 @@
+pub mod State
+pub mod Passing
+pub mod Automaton
+pub mod Explained

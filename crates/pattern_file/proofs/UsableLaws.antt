@@ -1,0 +1,31 @@
+-- The types of a plan have as many fields as those of its file.
+use Rattle.std.proofs.Common.{◌≡◌, ◌≤◌, ℕ, List, [], ◌∷◌, length, map, sym, arith, subst}
+use Rattle.std.specs.List.{AllByRecursion as Each, sum_by}
+use Rattle.std.proofs.lemmas.List.{length-map}
+use Rattle.std.proofs.lemmas.List.Sums.{sum_by-cons}
+use Rattle.cep_event.specs.declared.event.EventType.{EventType}
+use Rattle.cep_event.specs.declared.event.Field.{Field}
+use Rattle.cep_plan.specs.declared.plan.Plan.{Plan}
+use Rattle.cep_syntax.specs.declared.file.File.{File}
+use Rattle.cep_syntax.specs.declared.file.TypeDecl.{TypeDecl}
+use Rattle.cep_syntax.specs.WellFormed.{IsWellFormed}
+use Rattle.pattern_check.specs.Checked.{IsChecked}
+use Rattle.pattern_check.specs.Plan.{field_of, types_of, plan_of}
+use Rattle.pattern_rules.specs.Fields.{known_fields}
+use Rattle.pattern_file.specs.Usable.{IsUsable}
+
+each_few : (known : List Field) (types : List TypeDecl) (bound : ℕ) → sum_by (λ (d : TypeDecl). length d.fields) types ≤ bound → Each (λ (t : EventType). length t.fields ≤ bound) (types_of known types)
+each_few known [] bound h = tt
+each_few known (d ∷ types) bound h =
+    let split = sum_by-cons (λ (d : TypeDecl). length d.fields) d types in
+    (omega (arith, h, split, length-map d.fields (field_of known)), each_few known types bound (omega (arith, h, split)))
+
+fields_few : (file : File) → IsWellFormed file → Each (λ (t : EventType). length t.fields ≤ 65535) (plan_of file).types
+unfolding plan_of
+fields_few file formed = each_few (known_fields file.types) file.types 65535 formed.few_fields
+
+pub usable : (file : File) (plan : Plan) → IsWellFormed file → IsChecked plan → plan ≡ plan_of file → IsUsable plan
+usable file plan formed checked is = record {
+  checked = checked;
+  fields = subst (λ (p : Plan). Each (λ (t : EventType). length t.fields ≤ 65535) p.types) (sym is) (fields_few file formed);
+}

@@ -1,0 +1,4 @@
+pub mod Reading
+pub mod Checked
+pub mod Answers
+pub mod Usable

@@ -1,0 +1,8 @@
+//! What the bytes of a pattern file come to: they are read, checked, and made a plan that runs or a text that is printed.
+#![tactic(auto)]
+
+mod fault;
+mod whole;
+
+pub use fault::PatternFault;
+pub use whole::{plan_in, printed_in};

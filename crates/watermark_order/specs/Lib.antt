@@ -1,0 +1,4 @@
+pub mod Sooner
+pub mod Reached
+pub mod Held
+pub mod Order
