@@ -253,7 +253,7 @@ fn a_long_line_is_refused_before_its_end(rt: HostRuntime) -> Result<(), Fail> {
     Ok(())
 }
 
-const LINES: [(Status, u8, &str); 9] = [
+const LINES: [(Status, u8, &str); 10] = [
     (Status::Done, 0, ""),
     (Status::NoMemory, 1, "cep: no memory\n"),
     (
