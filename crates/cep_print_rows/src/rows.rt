@@ -262,3 +262,69 @@ fn files_that_differ_are_told_apart(rt: HostRuntime) -> Result<(), Fail> {
     }
     Ok(())
 }
+
+/// The operators of two operands, each with its level.
+const OPERATORS: [(&str, u8); 13] = [
+    ("||", 1),
+    ("&&", 2),
+    ("==", 3),
+    ("!=", 3),
+    ("<", 3),
+    ("<=", 3),
+    (">", 3),
+    (">=", 3),
+    ("+", 4),
+    ("-", 4),
+    ("*", 5),
+    ("/", 5),
+    ("%", 5),
+];
+
+/// Whether one operator inside another one, on the left and on the right, has its parentheses exactly where they are needed.
+fn is_nested(alloc: Global, outer: &str, inner: &str, needed: bool) -> Result<bool, Fail> {
+    let left = format!(in alloc; "(a {inner} b) {outer} c")?;
+    let right = format!(in alloc; "a {outer} (b {inner} c)")?;
+    if needed {
+        let stay = is_printed_as(alloc, left.as_str(), left.as_str())?;
+        return Ok(stay && is_printed_as(alloc, right.as_str(), right.as_str())?);
+    }
+    let bare_left = format!(in alloc; "a {inner} b {outer} c")?;
+    let bare_right = format!(in alloc; "a {outer} b {inner} c")?;
+    let go = is_printed_as(alloc, left.as_str(), bare_left.as_str())?;
+    Ok(go && is_printed_as(alloc, right.as_str(), bare_right.as_str())?)
+}
+
+#[test]
+fn each_operator_stands_in_each_other_one(rt: HostRuntime) -> Result<(), Fail> {
+    for (outer, level) in OPERATORS {
+        for (inner, other) in OPERATORS {
+            let holds = is_nested(rt.alloc(), outer, inner, other <= level)?;
+            assert!(rt; holds, "{inner} in {outer}");
+        }
+    }
+    Ok(())
+}
+
+/// Whether a sign keeps the parentheses of an operator inside it, and needs none inside that operator.
+fn is_signed(alloc: Global, sign: &str, operator: &str) -> Result<bool, Fail> {
+    let around = format!(in alloc; "{sign}(a {operator} b)")?;
+    let inside = format!(in alloc; "({sign}a) {operator} ({sign}b)")?;
+    let bare = format!(in alloc; "{sign}a {operator} {sign}b")?;
+    let stay = is_printed_as(alloc, around.as_str(), around.as_str())?;
+    Ok(stay && is_printed_as(alloc, inside.as_str(), bare.as_str())?)
+}
+
+#[test]
+fn signs_stand_in_operators_and_around_them(rt: HostRuntime) -> Result<(), Fail> {
+    for sign in ["!", "-"] {
+        for (operator, _) in OPERATORS {
+            let holds = is_signed(rt.alloc(), sign, operator)?;
+            assert!(rt; holds, "{sign} and {operator}");
+        }
+    }
+    for text in ["!(!a)", "!(-a)", "-(!a)", "-(-a)"] {
+        let holds = is_printed_as(rt.alloc(), text, text)?;
+        assert!(rt; holds, "{text}");
+    }
+    Ok(())
+}

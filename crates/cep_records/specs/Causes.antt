@@ -1,5 +1,5 @@
 -- What an answer tells (this project's own).
-use Rattle.std.specs.Prelude.{◌≡◌, ℕ, Result, Ok, Err}
+use Rattle.std.specs.Prelude.{◌≡◌, Result, Ok, Err}
 use Rattle.cep_rows.specs.declared.cause.RowCause.{RowCause}
 use Rattle.cep_records.specs.declared.cause.RowFault.{RowFault}
 use Rattle.cep_records.specs.declared.cause.RowFault.TheVariants as fault

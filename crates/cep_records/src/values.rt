@@ -5,9 +5,9 @@ ghost use Rattle.cep_records.specs.Causes.{Answers};
 ghost use Rattle.cep_records.specs.Record.{field_at, value_in, values_in};
 
 use crate::cause::RowFault;
-use cep_rows::RowCause;
 use crate::number::number_in;
 use cep_event::{Field, Kind, NoMemory, Text, Value, ValueList};
+use cep_rows::RowCause;
 use line_fields::Fields;
 use std::alloc::Global;
 
