@@ -1,21 +1,18 @@
 -- A run before its first line, and one line more.
-use Rattle.std.proofs.Common.{◌≡◌, refl, sym, ◌∙◌, ap, subst, ℕ, ◌+◌, ◌≤◌, ◌<◌, ◌^◌, ◌-◌, arith, append_assoc, append-nil, map, Bool, true, false, ◌&&◌, List, [], ◌∷◌, ◌++◌, length, length-append, Option, Some, None}
+use Rattle.std.proofs.Common.{◌≡◌, refl, sym, ◌∙◌, ap, subst, ℕ, ◌+◌, ◌≤◌, ◌<◌, ◌^◌, ◌-◌, arith, append-nil, map, Bool, true, false, ◌&&◌, List, [], ◌∷◌, ◌++◌, length, length-append, Option, Some, None}
 use Rattle.std.specs.Prelude.{Result, Ok, Err, nat_le, IfSome, IfOk}
-use Rattle.std.specs.List.{AllByRecursion as Each}
 use Rattle.std.proofs.lemmas.Bool.Decides.{nat_tests}
-use Rattle.cep_event.specs.declared.event.Event.{Event}
 use Rattle.cep_event.specs.declared.event.EventType.{EventType}
 use Rattle.cep_event.specs.declared.record.LineRecord.{LineRecord}
 use Rattle.cep_plan.specs.declared.plan.Plan.{Plan}
-use Rattle.cep_plan.specs.EventTime.{Arrival, arrivals_of, ticks_of, ticks_of_end, all_ticks, released}
+use Rattle.cep_plan.specs.EventTime.{Arrival, arrivals_of, ticks_of, ticks_of_end, released}
 use Rattle.cep_plan.specs.Tick.{Tick, event_tick, mark_tick}
 use Rattle.cep_engine.specs.State.{State, StandsFor, HasRoom}
 use Rattle.cep_engine.proofs.LoopLaws.{Each-get}
 use Rattle.cep_records.specs.Numbered.{AreNumbered}
 use Rattle.cep_records.specs.Record.{record_of_line, no_type}
-use Rattle.cep_rows.specs.declared.cause.RowCause.{RowCause}
 use Rattle.cep_session.specs.Meaning.{Meaning}
-use Rattle.pattern_check.specs.Checked.{IsChecked, is_limit}
+use Rattle.pattern_check.specs.Checked.{is_limit}
 use Rattle.pattern_file.specs.Usable.{IsUsable}
 use Rattle.watermark_order.specs.Order.{OrderState, order_of}
 use Rattle.watermark_order.specs.Order.{HandsOut, ready}

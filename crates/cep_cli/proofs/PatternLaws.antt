@@ -5,10 +5,8 @@ use Rattle.std.proofs.lemmas.Bool.Decides.{nat_tests}
 use Rattle.std.proofs.lemmas.List.{take_all, length-take-le}
 use Rattle.cep_outside.specs.Outside.{IsLoaded}
 use Rattle.cep_plan.specs.declared.plan.Plan.{Plan}
-use Rattle.cep_syntax.specs.declared.fault.SyntaxFault.{SyntaxFault}
 use Rattle.cep_syntax.specs.declared.file.File.{File}
 use Rattle.pattern_rules.specs.declared.rule.Fault.{Fault}
-use Rattle.pattern_file.specs.Reading.{AreReadAs}
 use Rattle.pattern_file.specs.Checked.{AreCheckedAs, ArePlannedAs, ArePrintedAs}
 use Rattle.cep_cli.specs.declared.pattern.PatternStop.{PatternStop}
 use Rattle.cep_cli.specs.declared.pattern.PatternStop.TheVariants.{NoMemory, Failed, Refused}

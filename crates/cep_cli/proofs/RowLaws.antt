@@ -1,5 +1,5 @@
 -- Events wait with rows that came before.
-use Rattle.std.proofs.Common.{◌≡◌, refl, sym, ◌∙◌, ap, subst, ℕ, suc, ◌+◌, ◌<◌, ◌≤◌, arith, Bool, true, false, cond, not, List, [], ◌∷◌, ◌++◌, length, Option, Some, None}
+use Rattle.std.proofs.Common.{◌≡◌, refl, sym, ◌∙◌, ap, subst, ℕ, suc, ◌+◌, ◌<◌, arith, Bool, true, false, cond, not, List, [], ◌∷◌, ◌++◌, length, Option, Some, None}
 use Rattle.std.specs.Prelude.{ℤ, filter, Result, Ok, Err, ◌-ℤ◌, pos, negsuc, int_le, ◌^◌, ◌-◌}
 use Rattle.std.specs.List.{AllByRecursion as Each}
 use Rattle.cep_event.specs.declared.event.Event.{Event}
@@ -7,13 +7,13 @@ use Rattle.cep_event.specs.declared.event.EventType.{EventType}
 use Rattle.cep_event.specs.declared.record.LineRecord.{LineRecord}
 use Rattle.cep_event.specs.declared.record.LineRecord.TheVariants.{Blank, Mark, Row}
 use Rattle.cep_plan.specs.EventTime.{Arrival, arrived, marked, events_among, arrivals_after, arrivals_of, marks_behind, greatest_from, is_passed}
-use Rattle.cep_plan.proofs.RisingLaws.{Each-weaker, Each-append}
+use Rattle.cep_plan.proofs.RisingLaws.{Each-weaker}
 use Rattle.live_laws.proofs.MemberLaws.{Each-filter}
 use Rattle.cep_records.specs.Record.{record_of_line}
 use Rattle.cep_rows.specs.declared.cause.RowCause.{RowCause}
-use Rattle.watermark_order.specs.Order.{order_of, waiting_of}
+use Rattle.watermark_order.specs.Order.{order_of}
 use Rattle.watermark_order.proofs.TimeLaws.{each-order}
-use Rattle.cep_cli.specs.Records.{record_or_blank, record_at, records_from, records_of}
+use Rattle.cep_cli.specs.Records.{record_or_blank, records_from, records_of}
 use Rattle.cep_cli.specs.Run.{ComesBehind}
 use Rattle.cep_cli.proofs.RunLaws.{row_is}
 

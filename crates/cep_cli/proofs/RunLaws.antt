@@ -1,33 +1,30 @@
 -- One record more, from what arrives to what is printed.
-use Rattle.std.proofs.Common.{◌≡◌, refl, sym, ◌∙◌, ap, subst, ℕ, ◌+◌, ◌≤◌, ◌<◌, arith, Bool, true, false, cond, eqb, List, [], ◌∷◌, ◌++◌, length, map, drop, append_assoc, append-nil, Option, Some, None}
+use Rattle.std.proofs.Common.{◌≡◌, sym, ◌∙◌, ap, subst, ℕ, ◌+◌, Bool, true, false, cond, List, [], ◌∷◌, ◌++◌, length, map, drop, append_assoc, append-nil, Option, Some, None}
 use Rattle.std.specs.Prelude.{ℤ, Result, Ok, Err, if◌then◌else◌, ◌==◌, not, slice_index_or}
 use Rattle.std.specs.Str.{bytes_eq}
 use Rattle.cep_records.specs.Bare.{bare_line, is_text, has_open_quote}
 use Rattle.line_fields.specs.Line.{fields_of_line}
-use Rattle.std.specs.List.{AllByRecursion as Each}
 use Rattle.cep_event.specs.declared.event.Event.{Event}
 use Rattle.cep_event.specs.declared.event.EventType.{EventType}
 use Rattle.cep_event.specs.declared.event.Field.{Field}
 use Rattle.cep_event.specs.declared.value.Value.{Value}
 use Rattle.cep_event.specs.declared.record.LineRecord.{LineRecord}
 use Rattle.cep_event.specs.declared.record.LineRecord.TheVariants.{Blank, Mark, Row}
-use Rattle.cep_event.specs.declared.record.Moment.TheVariants.{At, End}
-use Rattle.cep_plan.specs.declared.item.Item.{Item}
-use Rattle.cep_plan.specs.declared.plan.Plan.{Plan}
-use Rattle.cep_plan.specs.EventTime.{Arrival, arrived, marked, rises, is_late, released, marks_behind, arrivals_of, ticks_of, ticks_of_mark, ticks_of_arrival, ticks_after}
+use Rattle.cep_event.specs.declared.record.Moment.TheVariants.{At}
+use Rattle.cep_plan.specs.EventTime.{Arrival, arrived, marked, rises, is_late, released, marks_behind, arrivals_of, ticks_of, ticks_of_mark, ticks_after}
 use Rattle.cep_plan.specs.Tick.{Tick, event_tick, mark_tick}
 use Rattle.cep_engine.specs.State.{State, StandsFor}
-use Rattle.cep_records.specs.Record.{event_of, event_at, event_of_type, event_if, mark_at, mark_of, record_of_fields, record_of_bare, record_of_line, type_named, field_at, at_sign, no_type, values_in}
+use Rattle.cep_records.specs.Record.{event_of, event_at, event_if, mark_at, mark_of, record_of_fields, record_of_bare, record_of_line, type_named, field_at, at_sign, no_type, values_in}
 use Rattle.cep_records.specs.Number.{number_in}
 use Rattle.cep_rows.specs.declared.cause.RowCause.{RowCause}
 use Rattle.cep_rows.specs.declared.cause.RowCause.TheVariants as cause
-use Rattle.cep_select.specs.Output.{late_row, rows_of}
-use Rattle.watermark_order.specs.Order.{OrderState, order_of, ready, settled, with_mark, event_times, HandsOut}
+use Rattle.cep_select.specs.Output.{late_row}
+use Rattle.watermark_order.specs.Order.{OrderState, order_of, ready, settled, event_times, HandsOut}
 use Rattle.watermark_order.proofs.OrderLaws.{order_of-stays, rises_is}
 use Rattle.watermark_order.proofs.RecordLaws.{arrivals_of-blank, arrivals_of-mark, arrivals_of-row, ticks_of-blank, ticks_of-mark, ticks_of-row}
-use Rattle.cep_cli.specs.Meaning.{late_text, added_items, caused_text}
+use Rattle.cep_cli.specs.Meaning.{added_items}
 use Rattle.cep_cli.specs.Run.{HasGone}
-use Rattle.cep_cli.specs.Ticks.{kept_more, HasTaken, HasMet}
+use Rattle.cep_cli.specs.Ticks.{HasTaken, HasMet}
 use Rattle.cep_cli.proofs.TickLaws.{taken-nothing, taken-more, added-more, ticks_after-one}
 
 -- ---- a mark

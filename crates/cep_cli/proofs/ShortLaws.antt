@@ -1,11 +1,10 @@
 -- Items that are all short.
-use Rattle.std.proofs.Common.{◌≡◌, ◌<◌, ◌^◌, ℕ, Bool, true, false, ◌&&◌, List, [], ◌∷◌, length, arith, refl}
+use Rattle.std.proofs.Common.{◌≡◌, Bool, true, false, ◌&&◌, List, [], ◌∷◌, arith, refl}
 use Rattle.std.specs.Prelude.{All}
 use Rattle.std.specs.List.{list_all}
 use Rattle.std.proofs.lemmas.Bool.Decides.{nat_tests}
 use Rattle.std.proofs.lemmas.List.Elements.{All-nil, All-cons}
 use Rattle.cep_plan.specs.declared.item.Item.{Item}
-use Rattle.cep_plan.specs.Skipping.{list_in}
 use Rattle.cep_select.specs.Pieces.{IsShort}
 use Rattle.cep_cli.specs.Short.{is_short}
 

@@ -1,9 +1,7 @@
 -- Pattern files that come to nothing.
-use Rattle.std.proofs.Common.{◌≡◌, refl, sym, ◌∙◌, ap, subst, ℕ, List, [], ◌⊎◌, inl, inr, Option, Some}
+use Rattle.std.proofs.Common.{◌≡◌, refl, sym, ◌∙◌, subst, ℕ, List, [], ◌⊎◌, inl, inr, Option, Some}
 use Rattle.std.specs.Prelude.{Result, Ok, Err, ◌≢◌}
-use Rattle.std.specs.Io.KnownBytes.{Appends}
 use Rattle.std.proofs.KnownBytes.{Appends-nil}
-use Rattle.cep_outside.specs.Outside.{AppendsPart}
 use Rattle.cep_session.specs.Meaning.{Meaning}
 use Rattle.cep_session.specs.Outcome.{Outcome}
 use Rattle.cep_session.specs.Progress.{Ended}

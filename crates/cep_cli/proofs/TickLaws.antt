@@ -1,8 +1,7 @@
 -- The kept items of ticks, one tick after another.
-use Rattle.std.proofs.Common.{◌≡◌, refl, sym, ◌∙◌, ap, subst, ℕ, List, [], ◌∷◌, ◌++◌, length, drop, append_assoc, append-nil}
+use Rattle.std.proofs.Common.{◌≡◌, sym, ◌∙◌, ap, subst, List, [], ◌∷◌, ◌++◌, length, drop, append_assoc, append-nil}
 use Rattle.std.specs.Prelude.{ℤ}
 use Rattle.std.proofs.Math.Seq.{drop-append_seam}
-use Rattle.cep_plan.specs.declared.item.Item.{Item}
 use Rattle.cep_plan.specs.declared.plan.Plan.{Plan}
 use Rattle.cep_plan.specs.EventTime.{Arrival, marked, ticks_after, ticks_of_arrival}
 use Rattle.cep_plan.specs.History.{history, items_at}

@@ -1,6 +1,5 @@
 -- What the bytes of a pattern file come to in each mode (this project's own).
-use Rattle.std.specs.Prelude.{◌≡◌, ℕ, List, Result, Ok, Err}
-use Rattle.cep_plan.specs.declared.plan.Plan.{Plan}
+use Rattle.std.specs.Prelude.{ℕ, List, Result, Ok, Err}
 use Rattle.cep_syntax.specs.declared.fault.SyntaxFault.{SyntaxFault}
 use Rattle.cep_syntax.specs.declared.file.File.{File}
 use Rattle.pattern_rules.specs.declared.rule.Fault.{Fault}

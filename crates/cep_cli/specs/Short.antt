@@ -1,5 +1,5 @@
 -- Items whose entries 32 bits can count.
-use Rattle.std.specs.Prelude.{ℕ, ◌-◌, ◌^◌, Bool, nat_le, length}
+use Rattle.std.specs.Prelude.{◌-◌, ◌^◌, Bool, nat_le, length}
 use Rattle.cep_plan.specs.declared.item.Item.{Item}
 use Rattle.cep_plan.specs.Skipping.{list_in}
 

@@ -1,6 +1,5 @@
 -- The kept items of ticks that come one after another.
-use Rattle.std.specs.Prelude.{◌≡◌, List, [], ◌∷◌, ◌++◌, map, ℕ, Option}
-use Rattle.cep_event.specs.declared.event.Event.{Event}
+use Rattle.std.specs.Prelude.{◌≡◌, List, [], ◌∷◌, ◌++◌, ℕ, Option}
 use Rattle.cep_plan.specs.declared.item.Item.{Item}
 use Rattle.cep_plan.specs.declared.plan.Plan.{Plan}
 use Rattle.cep_plan.specs.EventTime.{Arrival, ticks_after}

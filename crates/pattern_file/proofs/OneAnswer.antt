@@ -1,6 +1,6 @@
 -- Bytes are read in one way.
 use Rattle.std.proofs.lemmas.Bool.Decides.{nat_tests}
-use Rattle.std.proofs.Common.{arith, ltb, ◌≡◌, ℕ, Bool, true, false, zero, suc, ◌+◌, ◌-◌, ◌<◌, ◌≤◌, inl, inr, ◌⊎◌, List, [], ◌∷◌, ◌++◌, length, refl, sym, ◌∙◌, ap, subst, append_assoc}
+use Rattle.std.proofs.Common.{arith, ltb, ◌≡◌, ℕ, Bool, true, false, zero, suc, ◌+◌, ◌-◌, ◌<◌, ◌≤◌, inl, inr, List, [], ◌∷◌, ◌++◌, length, refl, sym, ◌∙◌, ap, subst, append_assoc}
 use Rattle.std.specs.Prelude.{Ok, Err, ◌≢◌, Result, Option, Some, None, map}
 use Rattle.std.specs.Str.{IsUtf8, is_utf8}
 use Rattle.std.specs.Str.Lossy.{utf8_valid_len}
@@ -14,12 +14,12 @@ use Rattle.cep_token.specs.Tokens.{Tokens, with_front, after_piece, tokens_from,
 use Rattle.cep_reading.specs.Lexeme.{Lexeme, lexeme_of}
 use Rattle.cep_syntax.specs.declared.fault.SyntaxFault.{SyntaxFault}
 use Rattle.cep_syntax.specs.declared.fault.SyntaxFault.TheVariants.{NoMemory, Bad}
-use Rattle.cep_syntax.specs.declared.fault.TheConstants.{EXPECTED, GREEDY, TOO_DEEP, TOO_LONG, NOT_UTF8}
+use Rattle.cep_syntax.specs.declared.fault.TheConstants.{TOO_DEEP, TOO_LONG, NOT_UTF8}
 use Rattle.cep_syntax.specs.Depth.{too_deep_from}
 use Rattle.cep_syntax.specs.declared.file.File.{File}
 use Rattle.cep_syntax.specs.Grammar.{IsFile, BeginsFile}
-use Rattle.cep_syntax.specs.Reads.{AreFile, StopsAt, EndsEarly, IsGreedy, IsUnexpected, IsGreedyAt, AreRead}
-use Rattle.cep_syntax.specs.Whole.{IsRefused, AreReadWithin, IsReadBy, IsRead}
+use Rattle.cep_syntax.specs.Reads.{StopsAt, IsGreedy, IsUnexpected, IsGreedyAt, AreRead}
+use Rattle.cep_syntax.specs.Whole.{IsRefused, AreReadWithin, IsReadBy}
 use Rattle.pattern_file.specs.Reading.{AreReadAs}
 
 -- ---- tokens have no want of memory

@@ -1,6 +1,6 @@
 -- Bytes come to one plan, to one text and to one refusal.
-use Rattle.std.proofs.Common.{◌≡◌, ℕ, Bool, true, false, inl, inr, List, Some, None, refl, sym, ◌∙◌, ap, subst}
-use Rattle.std.specs.Prelude.{Ok, Err, ◌≢◌, Result}
+use Rattle.std.proofs.Common.{◌≡◌, ℕ, inl, inr, List, Some, None, sym, ◌∙◌, ap}
+use Rattle.std.specs.Prelude.{Ok, Err, Result}
 use Rattle.cep_plan.specs.declared.plan.Plan.{Plan}
 use Rattle.cep_print.specs.File.{printed}
 use Rattle.cep_syntax.specs.declared.fault.SyntaxFault.{SyntaxFault}
@@ -9,7 +9,7 @@ use Rattle.cep_syntax.specs.declared.file.File.{File}
 use Rattle.pattern_rules.specs.declared.rule.Fault.{Fault}
 use Rattle.pattern_rules.specs.Rules.{fault_of}
 use Rattle.pattern_check.specs.Plan.{plan_of}
-use Rattle.pattern_file.specs.Reading.{AreReadAs, IsFileIn, IsNoFile}
+use Rattle.pattern_file.specs.Reading.{IsFileIn, IsNoFile}
 use Rattle.pattern_file.specs.Checked.{AreCheckedAs, ArePlannedAs, ArePrintedAs}
 use Rattle.pattern_file.specs.declared.fault.PatternFault.{PatternFault}
 use Rattle.pattern_file.specs.declared.fault.PatternFault.TheVariants as want

@@ -1,5 +1,5 @@
 -- What an answer tells. Want of memory may be answered in its place.
-use Rattle.std.specs.Prelude.{◌≡◌, ℕ, List, Option, Some, None, Result, Ok, Err}
+use Rattle.std.specs.Prelude.{◌≡◌, ℕ, List, Some, None, Result, Ok, Err}
 use Rattle.cep_plan.specs.declared.plan.Plan.{Plan}
 use Rattle.cep_print.specs.File.{printed}
 use Rattle.cep_syntax.specs.declared.file.File.{File}

@@ -1,5 +1,5 @@
 -- What the bytes of a pattern file come to once the file is checked: a plan that is run, or a text that is printed, or why they are refused (this project's own).
-use Rattle.std.specs.Prelude.{◌≡◌, ◌⊎◌, ℕ, List, Option, Some, None, Result, Ok, Err}
+use Rattle.std.specs.Prelude.{◌≡◌, ◌⊎◌, ℕ, List, Some, None, Result, Ok, Err}
 use Rattle.cep_plan.specs.declared.plan.Plan.{Plan}
 use Rattle.cep_print.specs.File.{printed}
 use Rattle.cep_syntax.specs.declared.file.File.{File}

@@ -1,4 +1,4 @@
-use Rattle.std.proofs.Common.{◌≡◌, List, ℕ, Some, None, sym, ap, ◌∙◌, subst}
+use Rattle.std.proofs.Common.{◌≡◌, List, ℕ, None, sym, ap, ◌∙◌, subst}
 use Rattle.cep_outside.specs.Outside.{Rose}
 use Rattle.std.specs.Prelude.{map, string_bytes}
 use Rattle.cep_session.specs.Progress.{Ended}

@@ -1,5 +1,5 @@
-use Rattle.std.proofs.Common.{◌≡◌, List, ℕ, inl, inr, ◌⊎◌, sym, ap, ◌∙◌, subst}
-use Rattle.std.specs.Prelude.{Result, Ok, Err}
+use Rattle.std.proofs.Common.{◌≡◌, inl, inr, ◌⊎◌, ap, ◌∙◌, subst}
+use Rattle.std.specs.Prelude.{Ok, Err}
 use Rattle.cep_session.specs.declared.status.Status.{Status}
 use Rattle.cep_session.specs.declared.status.Status.TheVariants as status
 use Rattle.pattern_file.specs.Checked.{ArePrintedAs}

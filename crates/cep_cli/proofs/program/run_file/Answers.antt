@@ -1,4 +1,4 @@
-use Rattle.std.proofs.Common.{◌≡◌, List, ℕ, None, subst, ap}
+use Rattle.std.proofs.Common.{None, subst, ap}
 use Rattle.std.specs.Prelude.{Ok, Err}
 use Rattle.cep_session.specs.Progress.{Ended}
 use Rattle.pattern_file.specs.Checked.{ArePlannedAs}

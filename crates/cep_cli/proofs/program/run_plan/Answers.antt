@@ -1,4 +1,4 @@
-use Rattle.std.proofs.Common.{◌≡◌, List, ℕ, None, ap, ◌∙◌}
+use Rattle.std.proofs.Common.{None, ap, ◌∙◌}
 use Rattle.cep_session.specs.Ending.{status_of}
 use Rattle.cep_session.specs.declared.status.Status.TheVariants as status
 use Rattle.cep_session.proofs.Told.{untouched, nothing_owed}

@@ -1,8 +1,7 @@
-use Rattle.std.proofs.Common.{◌≡◌, ◌++◌, ◌<◌, refl, sym, ◌∙◌, ap, subst, arith, List, [], ◌∷◌, length, map, append_assoc, append-nil, Some, None}
+use Rattle.std.proofs.Common.{◌≡◌, ◌++◌, refl, sym, ◌∙◌, ap, subst, arith, [], ◌∷◌, length, map, append_assoc}
 use Rattle.std.specs.Prelude.{option_to_list}
-use Rattle.cep_event.specs.declared.event.Event.{Event}
-use Rattle.cep_plan.specs.Tick.{Tick, event_tick}
-use Rattle.watermark_order.specs.Order.{ready, settled}
+use Rattle.cep_plan.specs.Tick.{event_tick}
+use Rattle.watermark_order.specs.Order.{ready}
 use Rattle.cep_engine.proofs.LoopLaws.{map-push}
 use Rattle.cep_cli.specs.Ticks.{HasTaken}
 use Rattle.cep_cli.proofs.TickLaws.{taken-more, taken-nothing}

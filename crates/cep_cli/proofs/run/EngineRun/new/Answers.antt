@@ -1,4 +1,4 @@
-use Rattle.cep_cli.proofs.BegunLaws.{begun, few_stages, has_room}
+use Rattle.cep_cli.proofs.BegunLaws.{begun}
 use Rattle.cep_cli.proofs.run.EngineRun.new.Goals as goal
 
 pub returns : goal.returns
