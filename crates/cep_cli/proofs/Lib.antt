@@ -1,7 +1,11 @@
+pub mod WordLaws
 pub mod PatternLaws
 pub mod StopLaws
+pub mod TableLaws
 pub mod TickLaws
 pub mod RunLaws
 pub mod RowLaws
 pub mod ShortLaws
 pub mod BegunLaws
+pub mod SummaryLaws
+pub mod LoadLaws

@@ -8,9 +8,14 @@ use Rattle.cep_plan.specs.declared.plan.Plan.{Plan}
 use Rattle.cep_syntax.specs.declared.file.File.{File}
 use Rattle.pattern_rules.specs.declared.rule.Fault.{Fault}
 use Rattle.pattern_file.specs.Checked.{AreCheckedAs, ArePlannedAs, ArePrintedAs}
+use Rattle.pattern_file.proofs.OnePlan.{one_planned, one_printed}
+use Rattle.nfa_compile.specs.Explained.{explained}
+use Rattle.cep_cli.specs.Load.{load_summary}
+use Rattle.cep_cli.specs.declared.pattern.Form.{Form}
+use Rattle.cep_cli.specs.declared.pattern.Form.TheVariants as form
 use Rattle.cep_cli.specs.declared.pattern.PatternStop.{PatternStop}
 use Rattle.cep_cli.specs.declared.pattern.PatternStop.TheVariants.{NoMemory, Failed, Refused}
-use Rattle.cep_cli.specs.Pattern.{ReadsAlike, Tells}
+use Rattle.cep_cli.specs.Pattern.{AreMadeInto, AreShownAs, ReadsAlike, Tells}
 
 all_of : (n count : ℕ) → count ≡ min n 65537 → leb n 65536 ≡ true → n ≤ count
 all_of n count is h = grind (arith, nat_tests)
@@ -51,12 +56,48 @@ module _ (front content : List ℕ) (alike : ReadsAlike front content) where
   planned (Ok p) (f, x, is) = (f, checked (Ok f) x, is)
   planned (Err e) x = checked (Err e) x
 
-  pub shown : (a : Result (List ℕ) Fault) → ArePrintedAs front a → ArePrintedAs content a
-  shown (Ok t) (f, x, is) = (f, checked (Ok f) x, is)
-  shown (Err e) x = checked (Err e) x
+  printed : (a : Result (List ℕ) Fault) → ArePrintedAs front a → ArePrintedAs content a
+  printed (Ok t) (f, x, is) = (f, checked (Ok f) x, is)
+  printed (Err e) x = checked (Err e) x
+
+  made_too : (made : Plan → List ℕ) (a : Result (List ℕ) Fault) → AreMadeInto made front a → AreMadeInto made content a
+  made_too made (Ok t) (p, x, is) = (p, planned (Ok p) x, is)
+  made_too made (Err e) x = planned (Err e) x
+
+  pub shown : (f : Form) (a : Result (List ℕ) Fault) → AreShownAs f front a → AreShownAs f content a
+  shown form.File a x = printed a x
+  shown form.States a x = made_too explained a x
+  shown (form.Summary options) a x = made_too (load_summary options) a x
 
 pub tells_too : {T : Type 0} (P Q : Result T Fault → Type 0) → ((a : Result T Fault) → P a → Q a) → (r : Result T PatternStop) → Tells P r → Tells Q r
 tells_too P Q more (Ok v) x = more (Ok v) x
 tells_too P Q more (Err NoMemory) x = tt
 tells_too P Q more (Err Failed) x = tt
 tells_too P Q more (Err (Refused place code)) x = more (Err (record { place = place; code = code })) x
+
+-- ---- bytes come to one text of a form
+
+module _ (bytes : List ℕ) where
+  same_plan : (p q : Plan) → ArePlannedAs bytes (Ok p) → ArePlannedAs bytes (Ok q) → p ≡ q
+  same_plan p q x y = inner (one_planned bytes (Ok p) (Ok q) x y) where
+    inner : ◌≡◌ {A = Result Plan Fault} (Ok p) (Ok q) → p ≡ q
+    inner h = cc
+
+  never_both : (p : Plan) (e : Fault) → ArePlannedAs bytes (Ok p) → ArePlannedAs bytes (Err e) → ⊥
+  never_both p e x y = let bad = one_planned bytes (Ok p) (Err e) x y in cc
+
+  one_made : (made : Plan → List ℕ) (a b : Result (List ℕ) Fault) → AreMadeInto made bytes a → AreMadeInto made bytes b → a ≡ b
+  one_made made (Ok s) (Ok t) (p, x, is) (q, y, it) = ap (λ h. Ok h) (is ∙ ap made (same_plan p q x y) ∙ sym it)
+  one_made made (Ok s) (Err e) (p, x, is) y = absurd (never_both p e x y)
+  one_made made (Err e) (Ok t) x (q, y, it) = absurd (never_both q e y x)
+  one_made made (Err d) (Err e) x y = wrapped (one_planned bytes (Err d) (Err e) x y) where
+    wrapped : ◌≡◌ {A = Result Plan Fault} (Err d) (Err e) → ◌≡◌ {A = Result (List ℕ) Fault} (Err d) (Err e)
+    wrapped h = cc
+
+  pub one_shown_of : (f : Form) (a b : Result (List ℕ) Fault) → AreShownAs f bytes a → AreShownAs f bytes b → a ≡ b
+  one_shown_of form.File a b x y = one_printed bytes a b x y
+  one_shown_of form.States a b x y = one_made explained a b x y
+  one_shown_of (form.Summary options) a b x y = one_made (load_summary options) a b x y
+
+pub one_shown : (f : Form) (bytes : List ℕ) (a b : Result (List ℕ) Fault) → AreShownAs f bytes a → AreShownAs f bytes b → a ≡ b
+one_shown f bytes = one_shown_of bytes f

@@ -18,11 +18,11 @@ use Rattle.cep_records.specs.Record.{event_of, event_at, event_if, mark_at, mark
 use Rattle.cep_records.specs.Number.{number_in}
 use Rattle.cep_rows.specs.declared.cause.RowCause.{RowCause}
 use Rattle.cep_rows.specs.declared.cause.RowCause.TheVariants as cause
-use Rattle.cep_select.specs.Output.{late_row}
 use Rattle.watermark_order.specs.Order.{OrderState, order_of, ready, settled, event_times, HandsOut}
 use Rattle.watermark_order.proofs.OrderLaws.{order_of-stays, rises_is}
 use Rattle.watermark_order.proofs.RecordLaws.{arrivals_of-blank, arrivals_of-mark, arrivals_of-row, ticks_of-blank, ticks_of-mark, ticks_of-row}
 use Rattle.cep_cli.specs.Meaning.{added_items}
+use Rattle.cep_cli.specs.Records.{is_heading, record_in}
 use Rattle.cep_cli.specs.Run.{HasGone}
 use Rattle.cep_cli.specs.Ticks.{HasTaken, HasMet}
 use Rattle.cep_cli.proofs.TickLaws.{taken-nothing, taken-more, added-more, ticks_after-one}
@@ -62,37 +62,37 @@ met-nothing lag arrivals more ticks o a none is stands = subst (λ l. HasMet lag
 
 -- ---- a record
 
-pub gone-blank : (lag : Option ℕ) (records : List LineRecord) (next : LineRecord) (text : List ℕ) (o : OrderState) (a : State)
-    → next ≡ Blank → text ≡ [] → o ≡ order_of lag (arrivals_of lag records) → StandsFor (ticks_of lag records) a → HasGone lag records next text a a o
-gone-blank lag records next text o a blank empty is stands = subst (λ n. HasGone lag records n text a a o) (sym blank) (record {
-  text_is = empty;
+pub gone-blank : (lag : Option ℕ) (records : List LineRecord) (next : LineRecord) (late : Option ℕ) (o : OrderState) (a : State)
+    → next ≡ Blank → late ≡ None → o ≡ order_of lag (arrivals_of lag records) → StandsFor (ticks_of lag records) a → HasGone lag records next late a a o
+gone-blank lag records next late o a blank empty is stands = subst (λ n. HasGone lag records n late a a o) (sym blank) (record {
+  late_is = empty;
   order_is = is ∙ ap (order_of lag) (sym (arrivals_of-blank lag records));
   stands = subst (λ t. StandsFor t a) (sym (ticks_of-blank lag records)) stands;
   items = sym (append-nil a.items) ∙ ap (λ l. a.items ++ l) (sym (added-more a.plan (ticks_of lag records) []) ∙ ap (added_items a.plan (ticks_of lag records)) (append-nil (ticks_of lag records) ∙ sym (ticks_of-blank lag records)));
 })
 
-pub gone-mark : (lag : Option ℕ) (records : List LineRecord) (time : ℤ) (text : List ℕ) (o : OrderState) (a b : State)
-    → text ≡ [] → HasMet lag (arrivals_of lag records) (marked time ∷ []) (ticks_of lag records) a b o → HasGone lag records (Mark time) text a b o
-gone-mark lag records time text o a b empty met =
+pub gone-mark : (lag : Option ℕ) (records : List LineRecord) (time : ℤ) (late : Option ℕ) (o : OrderState) (a b : State)
+    → late ≡ None → HasMet lag (arrivals_of lag records) (marked time ∷ []) (ticks_of lag records) a b o → HasGone lag records (Mark time) late a b o
+gone-mark lag records time late o a b empty met =
     let all : ticks_of lag (records ++ Mark time ∷ []) ≡ ticks_of lag records ++ ticks_after (arrivals_of lag records) (marked time ∷ []) =
     ticks_of-mark lag records time ∙ ap (λ l. ticks_of lag records ++ l) (sym (ticks_after-one (arrivals_of lag records) time)) in
     record {
-      text_is = empty;
+      late_is = empty;
       order_is = met.order_is ∙ ap (order_of lag) (sym (arrivals_of-mark lag records time));
       stands = subst (λ t. StandsFor t b) (sym all) met.taken.stands;
       items = met.taken.items ∙ ap (λ l. a.items ++ l) (sym (added-more a.plan (ticks_of lag records) (ticks_after (arrivals_of lag records) (marked time ∷ []))) ∙ ap (added_items a.plan (ticks_of lag records)) (sym all));
     }
 
-pub gone-row : (lag : Option ℕ) (records : List LineRecord) (event : Event) (text : List ℕ) (o : OrderState) (a b : State)
-    → text ≡ (if is_late (arrivals_of lag records) event then late_row event.row else [])
+pub gone-row : (lag : Option ℕ) (records : List LineRecord) (event : Event) (late : Option ℕ) (o : OrderState) (a b : State)
+    → late ≡ (if is_late (arrivals_of lag records) event then Some event.row else None)
     → HasMet lag (arrivals_of lag records ++ arrived event ∷ []) (marks_behind lag (event_times (arrivals_of lag records)) event.ts) (ticks_of lag records) a b o
-    → HasGone lag records (Row event) text a b o
-gone-row lag records event text o a b is met =
+    → HasGone lag records (Row event) late a b o
+gone-row lag records event late o a b is met =
     let before = arrivals_of lag records ++ arrived event ∷ [] in
     let behind = marks_behind lag (event_times (arrivals_of lag records)) event.ts in
     let all : ticks_of lag (records ++ Row event ∷ []) ≡ ticks_of lag records ++ ticks_after before behind = ticks_of-row lag records event in
     record {
-      text_is = is;
+      late_is = is;
       order_is = met.order_is ∙ ap (order_of lag) (append_assoc (arrivals_of lag records) (arrived event ∷ []) behind ∙ sym (arrivals_of-row lag records event));
       stands = subst (λ t. StandsFor t b) (sym all) met.taken.stands;
       items = met.taken.items ∙ ap (λ l. a.items ++ l) (sym (added-more a.plan (ticks_of lag records) (ticks_after before behind)) ∙ ap (added_items a.plan (ticks_of lag records)) (sym all));
@@ -141,6 +141,10 @@ row-bare types row line =
     (row-if row (has_open_quote line) (Err cause.OpenQuote) (record_of_fields types row (fields_of_line line)) (λ event is. cc) (row-fields types row (fields_of_line line))))
 
 -- the event of a line has the line's row
-pub row_is : (types : List EventType) (row : ℕ) (line : List ℕ) (event : Event) → record_of_line types row line ≡ Ok (Row event) → event.row ≡ row
+row_is : (types : List EventType) (row : ℕ) (line : List ℕ) (event : Event) → record_of_line types row line ≡ Ok (Row event) → event.row ≡ row
 unfolding record_of_line
 row_is types row line = row-bare types row (bare_line row line)
+
+-- the same where the first line may be a heading
+pub row_in : (header : Bool) (types : List EventType) (row : ℕ) (line : List ℕ) (event : Event) → record_in header types row line ≡ Ok (Row event) → event.row ≡ row
+row_in header types row line = row-if row (is_heading header row) (Ok Blank) (record_of_line types row line) (λ event is. cc) (row_is types row line)

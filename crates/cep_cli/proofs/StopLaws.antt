@@ -54,9 +54,13 @@ fault-told P stop.NoMemory s is told good memory = absurd (memory is)
 fault-told P stop.Failed s is told good memory = absurd (good refl)
 fault-told P (stop.Refused p c) s is told good memory = (record { place = p; code = c }, told, is)
 
+-- nothing was printed, for want of memory
+pub nothing_yet : (out : Option (List ℕ)) (text : List ℕ) → HasPrinted status.NoMemory out out text
+nothing_yet out text = record { front = []; back = text; is = refl; appends = Appends-nil out }
+
 -- nothing was printed
 pub printed-nothing : (why : PatternStop) (s : Status) (out : Option (List ℕ)) (text : List ℕ) → IsToldBy why s → (why ≡ stop.NoMemory) ⊎ (why ≡ stop.Failed) → HasPrinted s out out text
-printed-nothing stop.NoMemory s out text is h = subst (λ t. HasPrinted t out out text) (sym is) (record { front = []; back = text; is = refl; appends = Appends-nil out })
+printed-nothing stop.NoMemory s out text is h = subst (λ t. HasPrinted t out out text) (sym is) (nothing_yet out text)
 printed-nothing stop.Failed s out text is h = subst (λ t. HasPrinted t out out text) (sym is) tt
 printed-nothing (stop.Refused p c) s out text is (inl h) = cc
 printed-nothing (stop.Refused p c) s out text is (inr h) = cc

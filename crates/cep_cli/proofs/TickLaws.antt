@@ -25,7 +25,7 @@ kept_more-append plan before (x ∷ xs) ys =
     ∙ ap (λ l. kept_at plan before x ++ (kept_more plan (before ++ x ∷ []) xs ++ kept_more plan l ys)) (append_assoc before (x ∷ []) xs)
     ∙ sym (append_assoc (kept_at plan before x) (kept_more plan (before ++ x ∷ []) xs) (kept_more plan (before ++ x ∷ xs) ys))
 
-kept_items-append : (plan : Plan) (before more : List Tick) → kept_items plan (before ++ more) ≡ kept_items plan before ++ kept_more plan before more
+pub kept_items-append : (plan : Plan) (before more : List Tick) → kept_items plan (before ++ more) ≡ kept_items plan before ++ kept_more plan before more
 kept_items-append plan before [] = ap (kept_items plan) (append-nil before) ∙ sym (append-nil (kept_items plan before))
 kept_items-append plan before (x ∷ more) =
     ap (kept_items plan) (sym (append_assoc before (x ∷ []) more))

@@ -1,4 +1,3 @@
-pub mod Words
 pub mod Pattern
 pub mod Stop
 pub mod Records
@@ -7,3 +6,5 @@ pub mod Verdict
 pub mod Ticks
 pub mod Short
 pub mod Run
+pub mod Load
+pub mod Counted

@@ -1,8 +1,7 @@
 -- What lines mean under a plan: which are refused, and the text that the others cause. Late events and items are those of the definitions of event time and of matches; that a line's late row comes before the items that it causes is this project's own.
-use Rattle.std.specs.Prelude.{ℕ, ◌+◌, List, [], ◌∷◌, ◌++◌, length, drop, if◌then◌else◌, Option, Some, None, Result, Ok, Err}
+use Rattle.std.specs.Prelude.{ℕ, ◌+◌, Bool, List, [], ◌∷◌, ◌++◌, length, drop, if◌then◌else◌, Option, Some, None, Result, Ok, Err}
 use Rattle.cep_event.specs.declared.record.LineRecord.{LineRecord}
 use Rattle.cep_event.specs.declared.record.LineRecord.TheVariants.{Blank, Mark, Row}
-use Rattle.cep_records.specs.Record.{record_of_line}
 use Rattle.cep_plan.specs.declared.item.Item.{Item}
 use Rattle.cep_plan.specs.declared.plan.Plan.{Plan}
 use Rattle.cep_plan.specs.EventTime.{arrivals_of, is_late, ticks_of, all_ticks}
@@ -12,7 +11,7 @@ use Rattle.cep_plan.specs.Tick.{Tick}
 use Rattle.cep_rows.specs.declared.cause.RowCause.{RowCause}
 use Rattle.cep_rows.specs.declared.cause.RowCause.TheVariants.{LineTooLong}
 use Rattle.cep_session.specs.Meaning.{Meaning}
-use Rattle.cep_cli.specs.Records.{record_at, records_of}
+use Rattle.cep_cli.specs.Records.{record_in, record_at, records_of}
 use Rattle.cep_select.specs.Output.{rows_of, late_row}
 
 -- ---- refused lines
@@ -32,26 +31,31 @@ kept_items plan ticks = kept plan.skip (history plan ticks)
 abbrev pub added_items : Plan → List Tick → List Tick → List Item
 added_items plan before ticks = drop (length (kept_items plan before)) (kept_items plan ticks)
 
--- the late row of a record that comes after others, where its event is late
-abbrev pub late_text : Option ℕ → List LineRecord → LineRecord → List ℕ
-late_text lag before Blank = []
-late_text lag before (Mark time) = []
-late_text lag before (Row event) = if is_late (arrivals_of lag before) event then late_row event.row else []
+-- the row of a record that comes after others, where its event is late
+abbrev pub late_in : Option ℕ → List LineRecord → LineRecord → Option ℕ
+late_in lag before Blank = None
+late_in lag before (Mark time) = None
+late_in lag before (Row event) = if is_late (arrivals_of lag before) event then Some event.row else None
+
+-- the text that tells of it
+abbrev pub late_text : Option ℕ → List ℕ
+late_text None = []
+late_text (Some row) = late_row row
 
 -- the text that a record causes that comes after others
 abbrev pub caused_text : Option ℕ → Plan → List LineRecord → LineRecord → List ℕ
 caused_text lag plan before next =
-    late_text lag before next ++ rows_of plan (added_items plan (ticks_of lag before) (ticks_of lag (before ++ next ∷ [])))
+    late_text (late_in lag before next) ++ rows_of plan (added_items plan (ticks_of lag before) (ticks_of lag (before ++ next ∷ [])))
 
 -- the text that is owed where these records are all
 abbrev pub owed_text : Option ℕ → Plan → List LineRecord → List ℕ
 owed_text lag plan records = rows_of plan (added_items plan (ticks_of lag records) (all_ticks lag records))
 
--- the meaning of lines under a plan, with a lag or without
-abbrev pub meaning_of : Option ℕ → Plan → Meaning
-meaning_of lag plan = record {
+-- the meaning of lines under a plan, with a heading or without, and with a lag or without
+abbrev pub meaning_of : Bool → Option ℕ → Plan → Meaning
+meaning_of header lag plan = record {
   too_long = LineTooLong;
-  refusal = λ before line. refusal_of (record_of_line plan.types (length before + 1) line);
-  caused = λ before line. caused_text lag plan (records_of plan.types before) (record_at plan.types (length before + 1) line);
-  owed = λ lines. owed_text lag plan (records_of plan.types lines);
+  refusal = λ before line. refusal_of (record_in header plan.types (length before + 1) line);
+  caused = λ before line. caused_text lag plan (records_of header plan.types before) (record_at header plan.types (length before + 1) line);
+  owed = λ lines. owed_text lag plan (records_of header plan.types lines);
 }

@@ -1,5 +1,5 @@
 -- A run that has handled some lines: what arrived is ordered, and the engine took the ticks that this gave.
-use Rattle.std.specs.Prelude.{◌≡◌, ◌≤◌, ◌<◌, ◌^◌, ℕ, List, [], ◌∷◌, ◌++◌, length, Option}
+use Rattle.std.specs.Prelude.{◌≡◌, ◌≤◌, ◌<◌, ◌^◌, ℕ, List, [], ◌∷◌, ◌++◌, length, Bool, Option}
 use Rattle.std.specs.List.{AllByRecursion as Each}
 use Rattle.cep_event.specs.declared.event.Event.{Event}
 use Rattle.cep_event.specs.declared.record.LineRecord.{LineRecord}
@@ -9,13 +9,13 @@ use Rattle.cep_engine.specs.State.{State, StandsFor}
 use Rattle.cep_records.specs.Numbered.{AreNumbered}
 use Rattle.cep_session.specs.Meaning.{Meaning}
 use Rattle.watermark_order.specs.Order.{OrderState, order_of}
-use Rattle.cep_cli.specs.Meaning.{meaning_of, late_text, added_items}
+use Rattle.cep_cli.specs.Meaning.{meaning_of, late_in, added_items}
 use Rattle.cep_cli.specs.Records.{records_of}
 
-pub record HasRun (m : Meaning) (order : OrderState) (engine : State) (handled : ℕ) (lines : List (List ℕ)) : Type 0 where
-  pub means : m ≡ meaning_of order.lag engine.plan
-  pub ordered : order ≡ order_of order.lag (arrivals_of order.lag (records_of engine.plan.types lines))
-  pub ticked : StandsFor (ticks_of order.lag (records_of engine.plan.types lines)) engine
+pub record HasRun (m : Meaning) (header : Bool) (order : OrderState) (engine : State) (handled : ℕ) (lines : List (List ℕ)) : Type 0 where
+  pub means : m ≡ meaning_of header order.lag engine.plan
+  pub ordered : order ≡ order_of order.lag (arrivals_of order.lag (records_of header engine.plan.types lines))
+  pub ticked : StandsFor (ticks_of order.lag (records_of header engine.plan.types lines)) engine
   pub handed : engine.items ≡ []
   pub counted : handled ≡ length lines
   pub stages : length engine.plan.stages ≤ 65536
@@ -30,9 +30,9 @@ ComesBehind waiting Blank = Unit {0}
 ComesBehind waiting (Mark time) = Unit {0}
 ComesBehind waiting (Row event) = Each (λ (e : Event). e.row < event.row) waiting
 
--- The record came behind others: its late row is told, the order stands for all, and the engine gathered the items that it adds.
-pub record HasGone (lag : Option ℕ) (records : List LineRecord) (next : LineRecord) (text : List ℕ) (old new : State) (order : OrderState) : Type 0 where
-  pub text_is : text ≡ late_text lag records next
+-- The record came behind others: the row of a late event is told, the order stands for all, and the engine gathered the items that it adds.
+pub record HasGone (lag : Option ℕ) (records : List LineRecord) (next : LineRecord) (late : Option ℕ) (old new : State) (order : OrderState) : Type 0 where
+  pub late_is : late ≡ late_in lag records next
   pub order_is : order ≡ order_of lag (arrivals_of lag (records ++ next ∷ []))
   pub stands : StandsFor (ticks_of lag (records ++ next ∷ [])) new
   pub items : new.items ≡ old.items ++ added_items old.plan (ticks_of lag records) (ticks_of lag (records ++ next ∷ []))

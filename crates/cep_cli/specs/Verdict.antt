@@ -1,5 +1,5 @@
 -- What the program has to answer where nothing outside it fails (this project's own).
-use Rattle.std.specs.Prelude.{◌≡◌, ℕ, ◌-◌, ◌^◌, List, Option, Some, None, Result, Ok, Err}
+use Rattle.std.specs.Prelude.{◌≡◌, ℕ, List, Option, Result, Ok, Err}
 use Rattle.std.specs.Io.KnownBytes.{Appends}
 use Rattle.cep_outside.specs.Outside.{AppendsPart}
 use Rattle.cep_plan.specs.declared.plan.Plan.{Plan}
@@ -10,35 +10,30 @@ use Rattle.cep_session.specs.Meaning.{verdict}
 use Rattle.pattern_rules.specs.declared.rule.Fault.{Fault}
 use Rattle.pattern_file.specs.Checked.{ArePlannedAs, ArePrintedAs}
 use Rattle.cep_cli.specs.Meaning.{meaning_of}
-use Rattle.cep_cli.specs.Words.{file_named, mode_of}
-use Rattle.cep_cli.specs.declared.words.Mode.{Mode}
-use Rattle.cep_cli.specs.declared.words.Mode.TheVariants.{Run, Check}
+use Rattle.cep_cli.specs.Pattern.{AreExplainedAs, AreSummedAs}
+use Rattle.cep_words.specs.declared.options.Options.{Options}
+use Rattle.cep_words.specs.declared.options.Mode.{Mode}
+use Rattle.cep_words.specs.declared.options.Mode.TheVariants.{Run, Check, Explain, Load}
 
--- how many lines are allowed
-abbrev pub allowed_rows : ℕ
-allowed_rows = 2 ^ 32 - 1
+-- the status of a run with these options and this plan, or of a pattern that is refused
+abbrev pub run_verdict : Options → Result Plan Fault → List ℕ → Status
+run_verdict options (Err fault) input = PatternRefused fault.code fault.place
+run_verdict options (Ok plan) input = verdict (meaning_of options.header options.lag plan) options.rows (raw_lines input)
 
--- the status of a run with this plan, or of a pattern that is refused
-abbrev pub run_verdict : Result Plan Fault → List ℕ → Status
-run_verdict (Err fault) input = PatternRefused fault.code fault.place
-run_verdict (Ok plan) input = verdict (meaning_of None plan) allowed_rows (raw_lines input)
+-- the status where a text is printed, or the pattern refused
+abbrev pub show_verdict : Result (List ℕ) Fault → Status
+show_verdict (Err fault) = PatternRefused fault.code fault.place
+show_verdict (Ok text) = Done
 
--- the status where the pattern is printed, or refused
-abbrev pub check_verdict : Result (List ℕ) Fault → Status
-check_verdict (Err fault) = PatternRefused fault.code fault.place
-check_verdict (Ok text) = Done
+abbrev pub IsVerdictIn : Mode → Options → List ℕ → List ℕ → Status → Type 0
+IsVerdictIn Run options file input status = (answer : Result Plan Fault) × ArePlannedAs file answer × (status ≡ run_verdict options answer input)
+IsVerdictIn Check options file input status = (answer : Result (List ℕ) Fault) × ArePrintedAs file answer × (status ≡ show_verdict answer)
+IsVerdictIn Explain options file input status = (answer : Result (List ℕ) Fault) × AreExplainedAs file answer × (status ≡ show_verdict answer)
+IsVerdictIn Load options file input status = (answer : Result (List ℕ) Fault) × AreSummedAs options file answer × (status ≡ show_verdict answer)
 
-abbrev pub IsVerdictFor : Mode → List ℕ → List ℕ → Status → Type 0
-IsVerdictFor Run file input status = (answer : Result Plan Fault) × ArePlannedAs file answer × (status ≡ run_verdict answer input)
-IsVerdictFor Check file input status = (answer : Result (List ℕ) Fault) × ArePrintedAs file answer × (status ≡ check_verdict answer)
-
-abbrev pub IsVerdictIf : Option (List ℕ) → Mode → List ℕ → List ℕ → Status → Type 0
-IsVerdictIf None mode file input status = status ≡ BadWords
-IsVerdictIf (Some name) mode file input status = IsVerdictFor mode file input status
-
--- the status with these words, where the pattern file and the input hold these bytes
-abbrev pub IsVerdict : List (List ℕ) → List ℕ → List ℕ → Status → Type 0
-IsVerdict words file input status = IsVerdictIf (file_named words) (mode_of words) file input status
+-- the status with these options, where the pattern file and the input hold these bytes
+abbrev pub IsVerdict : Options → List ℕ → List ℕ → Status → Type 0
+IsVerdict options file input status = IsVerdictIn options.mode options file input status
 
 -- a fact that holds of the statuses that come before the input is read
 abbrev pub IfUnread : Status → Type 0 → Type 0
@@ -56,7 +51,7 @@ IfUnread WriteFault P = Unit {0}
 abbrev pub IfBegun : Status → Type 0
 IfBegun status = IfUnread status ⊥
 
--- what the output took of a pattern's text, with the status with which its printing ended; no other status comes
+-- what the output took of a text, with the status with which its printing ended; no other status comes
 abbrev pub HasPrinted : Status → Option (List ℕ) → Option (List ℕ) → List ℕ → Type 0
 HasPrinted Done old new text = Appends old new text
 HasPrinted WriteFault old new text = AppendsPart old new text

@@ -1,10 +1,10 @@
 //! The top call: its words, its pattern file, and the run over its input.
 #![tactic(auto)]
 
+mod load;
 mod pattern;
 mod program;
 mod run;
-mod words;
 
 pub use cep_session::{RowCause, Status, number, tell};
 pub use program::cep;

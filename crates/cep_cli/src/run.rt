@@ -1,4 +1,4 @@
-ghost use Rattle.std.specs.Prelude.{◌≡◌, ◌≤◌, ◌<◌, ◌^◌, ◌++◌, ◌∷◌, [], List, ℕ, length, map, IsTrue, IfOk, OnOk, Option, if◌then◌else◌, All};
+ghost use Rattle.std.specs.Prelude.{◌≡◌, ◌≤◌, ◌<◌, ◌^◌, ◌++◌, ◌∷◌, [], List, ℕ, length, map, IsTrue, IfOk, OnOk, Option, Some, None, if◌then◌else◌, All};
 ghost use Rattle.std.specs.List.{AllByRecursion as Each, list_all};
 ghost use Rattle.cep_event.specs.declared.event.Event.{Event};
 ghost use Rattle.cep_event.specs.declared.record.Moment.TheVariants.{At, End};
@@ -8,9 +8,13 @@ ghost use Rattle.cep_plan.specs.EventTime.{Arrival, arrived, marked, is_late, ma
 ghost use Rattle.cep_plan.specs.Tick.{Tick, event_tick, mark_tick};
 ghost use Rattle.cep_engine.specs.Standing.{kept_at};
 ghost use Rattle.cep_engine.specs.State.{StandsFor};
-ghost use Rattle.cep_select.specs.Output.{late_row, rows_of};
+ghost use Rattle.cep_records.specs.Causes.{Answers};
+ghost use Rattle.cep_records.specs.Numbered.{AreNumbered};
+ghost use Rattle.cep_select.specs.Output.{rows_of};
 ghost use Rattle.cep_select.specs.Pieces.{IsShort};
 ghost use Rattle.watermark_order.specs.Order.{order_of, ready, settled, event_times};
+ghost use Rattle.cep_cli.specs.Meaning.{late_text};
+ghost use Rattle.cep_cli.specs.Records.{record_in};
 ghost use Rattle.cep_cli.specs.Run.{ComesBehind, HasGone};
 ghost use Rattle.cep_cli.specs.Short.{is_short};
 ghost use Rattle.cep_cli.specs.Ticks.{HasTaken, HasMet};
@@ -25,8 +29,8 @@ use cep_session::{Handler, LineFault, RowCause};
 use std::alloc::Global;
 use watermark_order::{Arrived, Order};
 
-// Hands an event to the engine.
-fn feed(engine: &mut Engine, event: Event) -> Result<(), NoMemory>
+/// Hands an event to the engine.
+pub(crate) fn feed(engine: &mut Engine, event: Event) -> Result<(), NoMemory>
     ensures plan { engine.new.plan ≡ engine.old.plan }
     ensures taken { (ticks : List Tick) → StandsFor ticks engine.old → IfOk result (λ done. HasTaken ticks (event_tick event ∷ []) engine.old engine.new) }
 {
@@ -79,17 +83,17 @@ fn raise(order: &mut Order, engine: &mut Engine, time: i64) -> Result<(), NoMemo
     Ok(())
 }
 
-// Takes an event, and gives the row that tells of it where it is late.
-fn admit(alloc: Global, order: &mut Order, event: Event) -> Result<ByteList, NoMemory>
+// Takes an event, and gives its row where it is late.
+fn admit(order: &mut Order, event: Event) -> Result<Option<u32>, NoMemory>
     requires rows { Each (λ waiting. waiting.row < event.row) order.old.waiting }
-    ensures text { (lag : Option ℕ) (arrivals : List Arrival) → order.old ≡ order_of lag arrivals
-        → IfOk result (λ text. text ≡ (if is_late arrivals event then late_row event.row else [])) }
+    ensures late { (lag : Option ℕ) (arrivals : List Arrival) → order.old ≡ order_of lag arrivals
+        → IfOk result (λ late. late ≡ (if is_late arrivals event then Some event.row else None)) }
     ensures order { (lag : Option ℕ) (arrivals : List Arrival) → order.old ≡ order_of lag arrivals
-        → IfOk result (λ text. order.new ≡ order_of lag (arrivals ++ arrived event ∷ [])) }
+        → IfOk result (λ late. order.new ≡ order_of lag (arrivals ++ arrived event ∷ [])) }
 {
     match order.arrive(event)? {
-        Arrived::Late(row) => late_row(alloc, row),
-        Arrived::Kept => Ok(ByteList::new(alloc)),
+        Arrived::Late(row) => Ok(Some(row)),
+        Arrived::Kept => Ok(None),
     }
 }
 
@@ -106,53 +110,69 @@ fn follow(order: &mut Order, engine: &mut Engine) -> Result<(), NoMemory>
 }
 
 // Takes a mark of the input.
-fn take_mark(
-    alloc: Global,
-    order: &mut Order,
-    engine: &mut Engine,
-    time: i64,
-) -> Result<ByteList, NoMemory>
+fn take_mark(order: &mut Order, engine: &mut Engine, time: i64) -> Result<Option<u32>, NoMemory>
     ensures plan { engine.new.plan ≡ engine.old.plan }
     ensures gone { (lag : Option ℕ) (records : List LineRecord) → order.old ≡ order_of lag (arrivals_of lag records) → StandsFor (ticks_of lag records) engine.old
-        → IfOk result (λ text. HasGone lag records (Mark time) text engine.old engine.new order.new) }
+        → IfOk result (λ late. HasGone lag records (Mark time) late engine.old engine.new order.new) }
 {
     raise(order, engine, time)?;
-    Ok(ByteList::new(alloc))
+    Ok(None)
 }
 
 // Takes an event of the input, and the mark that the lag adds behind it.
-fn take_event(
-    alloc: Global,
-    order: &mut Order,
-    engine: &mut Engine,
-    event: Event,
-) -> Result<ByteList, NoMemory>
+fn take_event(order: &mut Order, engine: &mut Engine, event: Event) -> Result<Option<u32>, NoMemory>
     requires rows { Each (λ waiting. waiting.row < event.row) order.old.waiting }
     ensures plan { engine.new.plan ≡ engine.old.plan }
     ensures gone { (lag : Option ℕ) (records : List LineRecord) → order.old ≡ order_of lag (arrivals_of lag records) → StandsFor (ticks_of lag records) engine.old
-        → IfOk result (λ text. HasGone lag records (Row event) text engine.old engine.new order.new) }
+        → IfOk result (λ late. HasGone lag records (Row event) late engine.old engine.new order.new) }
 {
-    let text = admit(alloc, order, event)?;
+    let late = admit(order, event)?;
     follow(order, engine)?;
-    Ok(text)
+    Ok(late)
 }
 
-// Takes the record of a line, and gives the row that tells of an event that is late.
-fn take_record(
+/// The record of a line. A heading says nothing, whatever it holds.
+pub(crate) fn record_in(
     alloc: Global,
+    header: bool,
+    plan: &Plan,
+    line: &Line,
+    row: u32,
+) -> Result<LineRecord, RowFault>
+    requires { AreNumbered plan.now.types }
+    ensures { Answers result (record_in header plan.now.types row line.now) }
+{
+    if header && row == 1 {
+        return Ok(LineRecord::Blank);
+    }
+    record_of(alloc, plan, line, row)
+}
+
+/// Takes the record of a line, and gives the row of an event that is late.
+pub(crate) fn take_record(
     order: &mut Order,
     engine: &mut Engine,
     next: LineRecord,
-) -> Result<ByteList, NoMemory>
+) -> Result<Option<u32>, NoMemory>
     requires { ComesBehind order.old.waiting next }
     ensures plan { engine.new.plan ≡ engine.old.plan }
     ensures gone { (lag : Option ℕ) (records : List LineRecord) → order.old ≡ order_of lag (arrivals_of lag records) → StandsFor (ticks_of lag records) engine.old
-        → IfOk result (λ text. HasGone lag records next text engine.old engine.new order.new) }
+        → IfOk result (λ late. HasGone lag records next late engine.old engine.new order.new) }
 {
     match next {
-        LineRecord::Blank => Ok(ByteList::new(alloc)),
-        LineRecord::Mark(time) => take_mark(alloc, order, engine, time),
-        LineRecord::Row(event) => take_event(alloc, order, engine, event),
+        LineRecord::Blank => Ok(None),
+        LineRecord::Mark(time) => take_mark(order, engine, time),
+        LineRecord::Row(event) => take_event(order, engine, event),
+    }
+}
+
+// The row that tells of a late event, by the event's own row.
+fn late_text(alloc: Global, late: Option<u32>) -> Result<ByteList, NoMemory>
+    ensures { IfOk result (λ text. text ≡ late_text late) }
+{
+    match late {
+        Some(row) => late_row(alloc, row),
+        None => Ok(ByteList::new(alloc)),
     }
 }
 
@@ -211,6 +231,8 @@ pub(crate) struct EngineRun {
     pub(crate) alloc: Global,
     pub(crate) order: Order,
     pub(crate) engine: Engine,
+    /// Whether the first line is a heading.
+    pub(crate) header: bool,
     pub(crate) handled: u32,
 }
 
@@ -226,14 +248,24 @@ impl EngineRun {
     ghost use Rattle.cep_cli.specs.Run.{ComesBehind, HasRun};
 
     /// A run that has handled no line.
-    pub(crate) fn new(alloc: Global, lag: Option<u64>, plan: Plan) -> Result<EngineRun, NoMemory>
+    #[tactic(auto, using(crate::proofs::TableLaws::compilable))]
+    pub(crate) fn new(
+        alloc: Global,
+        header: bool,
+        lag: Option<u64>,
+        plan: Plan,
+    ) -> Result<EngineRun, NoMemory>
         requires { IsUsable plan }
-        ensures { IfOk result (λ run. HasRun (meaning_of lag plan) run.order run.engine run.handled []) }
+        ensures run { IfOk result (λ run. HasRun (meaning_of header lag plan) run.header run.order run.engine run.handled []) }
+        ensures header { IfOk result (λ run. run.header ≡ header) }
+        ensures lag { IfOk result (λ run. run.order.lag ≡ lag) }
+        ensures plan { IfOk result (λ run. run.engine.plan ≡ plan) }
     {
         Ok(EngineRun {
             alloc,
             order: Order::new(alloc, lag),
             engine: Engine::new(alloc, plan)?,
+            header,
             handled: 0,
         })
     }
@@ -243,6 +275,7 @@ impl EngineRun {
         requires rows { ComesBehind self.old.order.waiting next }
         requires few { length self.old.engine.plan.stages ≤ 65536 }
         ensures plan { self.new.engine.plan ≡ self.old.engine.plan }
+        ensures header { self.new.header ≡ self.old.header }
         ensures handled { self.new.handled ≡ self.old.handled }
         ensures caused { (lag : Option ℕ) (records : List LineRecord) → self.old.order ≡ order_of lag (arrivals_of lag records) → StandsFor (ticks_of lag records) self.old.engine → self.old.engine.items ≡ []
             → IfOk result (λ text. text ≡ caused_text lag self.old.engine.plan records next) }
@@ -252,7 +285,8 @@ impl EngineRun {
             → IfOk result (λ text. StandsFor (ticks_of lag (records ++ next ∷ [])) self.new.engine) }
         ensures items { OnOk result (self.new.engine.items ≡ []) }
     {
-        let mut text = take_record(self.alloc, &mut self.order, &mut self.engine, next)?;
+        let late = take_record(&mut self.order, &mut self.engine, next)?;
+        let mut text = late_text(self.alloc, late)?;
         let items = self.engine.items();
         let rows = rows_under(self.alloc, self.engine.plan(), &items)?;
         text.extend(rows.as_slice())?;
@@ -263,7 +297,7 @@ impl EngineRun {
 impl Handler for EngineRun {
     ghost use Rattle.cep_cli.specs.Run.{HasRun};
 
-    ghost stands = { λ s m lines. HasRun m s.order s.engine s.handled lines };
+    ghost stands = { λ s m lines. HasRun m s.header s.order s.engine s.handled lines };
 
     fn too_long(&self) -> RowCause {
         RowCause::LineTooLong
@@ -271,7 +305,7 @@ impl Handler for EngineRun {
 
     fn line(&mut self, line: &Line) -> Result<ByteList, LineFault> {
         let row = self.handled + 1;
-        let next = match record_of(self.alloc, self.engine.plan(), line, row) {
+        let next = match record_in(self.alloc, self.header, self.engine.plan(), line, row) {
             Ok(next) => next,
             Err(RowFault::NoMemory) => return Err(LineFault::NoMemory),
             Err(RowFault::Bad(cause)) => return Err(LineFault::Refused(cause)),
@@ -290,6 +324,7 @@ impl Handler for EngineRun {
             alloc,
             mut order,
             mut engine,
+            header: _,
             handled: _,
         } = self;
         order.end();

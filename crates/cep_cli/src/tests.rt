@@ -1,2 +1,4 @@
+mod loads;
+mod options;
 mod patterns;
 mod statuses;

@@ -2,6 +2,7 @@ ghost use Rattle.std.specs.Prelude.{◌+◌, ◌≡◌, ◌<◌, ◌≤◌, ◌-
 ghost use Rattle.std.specs.Prelude.{Ok, Err};
 ghost use Rattle.cep_event.specs.declared.record.Moment.TheVariants.{At, End};
 ghost use Rattle.cep_plan.specs.Tick.{Tick, event_tick, mark_tick};
+ghost use Rattle.nfa_compile.specs.State.{IsCompilable};
 ghost use Rattle.cep_engine.specs.Standing.{kept_at};
 ghost use Rattle.cep_engine.specs.State.{StandsFor, IsNotBefore, HasRoom};
 ghost use Rattle.cep_engine.specs.declared.engine.EngineFault.TheVariants.{Spent};
@@ -10,6 +11,7 @@ ghost use Rattle.cep_engine.specs.declared.engine.EngineFault.TheVariants as fau
 use crate::tick::{take_event, take_mark};
 use cep_event::{Event, Moment, NoMemory};
 use cep_plan::{ItemList, Plan};
+use nfa_compile::{Nfa, compile};
 use run_step::RunSet;
 use std::alloc::Global;
 use std::marker::Model;
@@ -60,6 +62,8 @@ pub fn append(items: &mut ItemList, more: ItemList) -> Result<(), NoMemory>
 pub struct Engine {
     alloc: Global,
     plan: Plan,
+    // The plan's automaton.
+    nfa: Nfa,
     runs: RunSet,
     limits: Limits,
     // The time of the last tick in milliseconds.
@@ -69,7 +73,9 @@ pub struct Engine {
 }
 
 impl Model for Engine {
-    ghost use Rattle.std.specs.Prelude.{◌≡◌, ◌≤◌, ◌^◌, false, length};
+    ghost use Rattle.std.specs.Prelude.{◌≡◌, false};
+    ghost use Rattle.nfa_compile.specs.State.{IsCompilable};
+    ghost use Rattle.nfa_compile.specs.Automaton.{automaton_of};
     ghost use Rattle.cep_engine.specs.State.{State, AreBehind, HasRoom};
     ghost use Rattle.std.specs.Coded.{codes};
     ghost use Rattle.cep_plan.specs.contracts.condition.Expr as expr;
@@ -80,22 +86,24 @@ impl Model for Engine {
 
     ghost view = { λ e. record { plan = e.plan; runs = e.runs; limits = e.limits; last = e.last; items = e.items; spent = e.spent } };
 
-    ghost invariant = { λ e. (length e.plan.stages ≤ 2 ^ 16) × HasRoom e.plan × (e.spent ≡ false → AreBehind e.runs.position e.last e.limits.starts) };
+    ghost invariant = { λ e. record { plan : IsCompilable e.plan; nfa : e.nfa ≡ automaton_of e.plan; room : HasRoom e.plan; behind : e.spent ≡ false → AreBehind e.runs.position e.last e.limits.starts } };
 }
 
 impl Engine {
-    /// An engine before its first tick. The plan is a checked one: it has at most 65,536 stages, and its time limit isn't 0.
+    /// An engine before its first tick. The plan is a checked one: it can be compiled, and its time limit isn't 0.
     pub fn new(alloc: Global, plan: Plan) -> Result<Engine, NoMemory>
-        requires stages { length plan.stages ≤ 2 ^ 16 }
+        requires plan { IsCompilable plan }
         requires within { HasRoom plan }
         ensures stands { IfOk result (λ engine. StandsFor [] engine) }
         ensures fresh { IfOk result (λ engine. (engine.plan ≡ plan) × (engine.last ≡ None) × (engine.runs.position ≡ 0) × (engine.items ≡ []) × (engine.spent ≡ false)) }
     {
-        let runs = RunSet::new(alloc, &plan)?;
+        let nfa = compile(alloc, &plan)?;
+        let runs = RunSet::new(alloc, &nfa)?;
         let limits = Limits::new(alloc, plan.within);
         Ok(Engine {
             alloc,
             plan,
+            nfa,
             runs,
             limits,
             last: None,
@@ -143,6 +151,7 @@ impl Engine {
         let made = take_event(
             &mut self.runs,
             &mut self.limits,
+            &self.nfa,
             &self.plan,
             event,
             self.alloc,

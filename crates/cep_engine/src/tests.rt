@@ -4,6 +4,7 @@ use cep_plan::{
     Cond, Contiguity, Item, ItemList, Negation, NegationList, PartList, Plan, Skip, Stage,
     StageList, TakenList,
 };
+use nfa_compile::is_compilable;
 use std::alloc::Global;
 use std::process::Abort;
 use std::test::Fail;
@@ -111,7 +112,7 @@ fn plan(alloc: Global, case: &Case) -> Result<Plan, NoMemory> {
 }
 
 fn engine(rt: &impl Abort, alloc: Global, plan: Plan) -> Result<Engine, NoMemory> {
-    assert!(rt; plan.stages.len() <= 65_536);
+    assert!(rt; is_compilable(&plan));
     assert!(rt; has_room(&plan));
     Engine::new(alloc, plan)
 }

@@ -3,12 +3,15 @@ ghost use Rattle.std.specs.Prelude.{ℤ, ◌≡◌, ◌<◌, ◌≤◌, ◌+◌,
 ghost use Rattle.std.specs.List.{AllByRecursion as Each};
 ghost use Rattle.cep_event.specs.declared.record.Moment.TheVariants.{At};
 ghost use Rattle.cep_plan.specs.Tick.{Tick, event_tick, mark_tick};
+ghost use Rattle.nfa_compile.specs.State.{IsCompilable};
+ghost use Rattle.nfa_compile.specs.Automaton.{automaton_of};
 ghost use Rattle.cep_engine.specs.Standing.{kept_at, PartsStand, ComesLater};
 
 use crate::matches::{add_matches, drop_killed, kept_matches, kill_runs};
 use crate::timeouts::time_out;
 use cep_event::{Event, Moment, NoMemory};
 use cep_plan::{ItemList, Plan};
+use nfa_compile::Nfa;
 use run_step::{RunSet, step};
 use std::alloc::Global;
 use time_limit::Limits;
@@ -37,11 +40,13 @@ pub fn take_mark(
 pub fn take_event(
     runs: &mut RunSet,
     limits: &mut Limits,
+    nfa: &Nfa,
     plan: &Plan,
     event: &Event,
     alloc: Global,
 ) -> Result<ItemList, NoMemory>
-    requires stages { length plan.now.stages ≤ 2 ^ 16 }
+    requires plan { IsCompilable plan.now }
+    requires nfa { nfa.now ≡ automaton_of plan.now }
     requires room { runs.old.position < 2 ^ 32 - 1 }
     requires behind { Each (λ s. (s.position < runs.old.position) × (int_le s.ts event.now.ts ≡ true)) limits.old.starts }
     ensures items { (ticks : List Tick) → PartsStand plan.now ticks runs.old limits.old → ComesLater ticks (At event.now.ts) → IfSome plan.now.within (λ w. 0 < w) → IfOk result (λ items. items ≡ kept_at plan.now ticks (event_tick event.now)) }
@@ -51,7 +56,7 @@ pub fn take_event(
 {
     let position = runs.position();
     let mut items = time_out(runs, limits, plan, Moment::At(event.ts), alloc)?;
-    let lists = step(runs, plan, event)?;
+    let lists = step(runs, nfa, plan, event)?;
     let found = kept_matches(plan.skip, lists)?;
     limits.add(position, event.ts)?;
     kill_runs(runs, plan.skip, &found);

@@ -32,7 +32,8 @@ pub fn check(alloc: Global, file: &File) -> Result<Plan, CheckFault>
     ensures sorted { IfOk result HasSorts }
 {
     let fields = known_fields(alloc, file.types.as_slice())?;
-    match fault_in(file, &fields) {
+    let fault = fault_in(alloc, file, &fields)?;
+    match fault {
         Some(fault) => Err(CheckFault::Bad {
             place: fault.place,
             code: fault.code,

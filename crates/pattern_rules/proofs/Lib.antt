@@ -1,3 +1,5 @@
 mod MentionLaws
 mod KindLaws
 mod FieldLaws
+mod NameLaws
+mod TypeLaws

@@ -11,3 +11,6 @@ pub mod Mentioned
 pub mod Kinds
 pub mod Rules
 pub mod Index
+pub mod Names
+pub mod TypeFields
+pub mod Indexed

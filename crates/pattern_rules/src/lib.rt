@@ -5,14 +5,17 @@ mod bounds;
 mod code;
 mod declarations;
 mod fields;
+mod indexed;
 mod kind;
 mod mention;
 mod named;
+mod names;
 mod role;
 mod rule;
 mod site;
 mod stage;
 mod stages;
+mod type_fields;
 mod whole;
 
 pub use bounds::{bounds_of, is_negated};

@@ -7,10 +7,10 @@ ghost use Rattle.pattern_rules.specs.Mentioned as spec;
 
 use crate::bounds::is_negated;
 use crate::fields::{KnownFields, is_known};
-use crate::named::{is_declared, is_same, opener_number};
+use crate::indexed::IndexedFile;
 use crate::site::{Site, earlier};
 use cep_event::Text;
-use cep_syntax::{File, ModKind, Name, Opener, SynExpr, SynFactor, SynNode, SynTerm, TypeDecl};
+use cep_syntax::{ModKind, Name, Opener, SynExpr, SynFactor, SynNode, SynTerm};
 
 #[derive(Clone, Copy, Debug, PartialEq, Eq)]
 pub enum MentionRule {
@@ -20,38 +20,37 @@ pub enum MentionRule {
     NegatedName,
 }
 
-fn has_field(types: &[TypeDecl], of: &Text, name: &Text) -> bool
-    ensures { result ≡ spec.has_field types.now of.now name.now }
-{
-    for declared in types {
-        if is_same(&declared.name.text, of) && is_declared(declared.fields.as_slice(), name) {
-            return true;
-        }
-    }
-    false
-}
-
-fn may_have(types: &[TypeDecl], fields: &KnownFields, of: &Option<Name>, name: &Text) -> bool
-    ensures { result ≡ spec.may_have types.now fields.now of.now name.now }
+fn may_have(file: &IndexedFile, fields: &KnownFields, of: &Option<Name>, name: &Text) -> bool
+    ensures { result ≡ spec.may_have file.now.types fields.now of.now name.now }
 {
     match of {
         None => is_known(fields, name),
-        Some(of) => has_field(types, &of.text, name),
+        Some(of) => file.has_field(&of.text, name),
     }
 }
 
 /// Whether the events that a condition of this opener is asked of may have the field.
-fn may_have_at(file: &File, fields: &KnownFields, opener: Option<&Opener>, name: &Text) -> bool
+fn may_have_at(
+    file: &IndexedFile,
+    fields: &KnownFields,
+    opener: Option<&Opener>,
+    name: &Text,
+) -> bool
     ensures { result ≡ spec.may_have file.now.types fields.now (spec.type_of (option_copied opener.entry)) name.now }
 {
     match opener {
         None => is_known(fields, name),
-        Some(opener) => may_have(file.types.as_slice(), fields, &opener.of, name),
+        Some(opener) => may_have(file, fields, &opener.of, name),
     }
 }
 
 /// Whether the events that are taken for this opener may have the field.
-fn may_have_taken(file: &File, fields: &KnownFields, opener: Option<&Opener>, name: &Text) -> bool
+fn may_have_taken(
+    file: &IndexedFile,
+    fields: &KnownFields,
+    opener: Option<&Opener>,
+    name: &Text,
+) -> bool
     ensures { result ≡ spec.may_have file.now.types fields.now (spec.type_taken (option_copied opener.entry)) name.now }
 {
     match opener {
@@ -60,19 +59,17 @@ fn may_have_taken(file: &File, fields: &KnownFields, opener: Option<&Opener>, na
             if is_negated(opener.how) {
                 is_known(fields, name)
             } else {
-                may_have(file.types.as_slice(), fields, &opener.of, name)
+                may_have(file, fields, &opener.of, name)
             }
         }
     }
 }
 
-fn is_unknown_field(file: &File, fields: &KnownFields, site: Site, name: &Text) -> bool
+fn is_unknown_field(file: &IndexedFile, fields: &KnownFields, site: Site, name: &Text) -> bool
     ensures { result ≡ spec.is_unknown_field file.now fields.now site name.now }
 {
     match site {
-        Site::Condition(number) => {
-            !may_have_at(file, fields, file.openers.as_slice().get(number), name)
-        }
+        Site::Condition(number) => { !may_have_at(file, fields, file.openers().get(number), name) }
         Site::Until(_) => !is_known(fields, name),
         Site::Select => true,
     }
@@ -80,7 +77,7 @@ fn is_unknown_field(file: &File, fields: &KnownFields, site: Site, name: &Text) 
 
 fn bad_field(
     rule: MentionRule,
-    file: &File,
+    file: &IndexedFile,
     fields: &KnownFields,
     site: Site,
     name: &Name,
@@ -99,12 +96,16 @@ fn bad_field(
     }
 }
 
-fn unknown_field_of(file: &File, fields: &KnownFields, name: &Name, field: &Name) -> Option<u32>
+fn unknown_field_of(
+    file: &IndexedFile,
+    fields: &KnownFields,
+    name: &Name,
+    field: &Name,
+) -> Option<u32>
     ensures { result ≡ spec.unknown_field_of file.now fields.now name.now field.now }
 {
-    let openers = file.openers.as_slice();
-    let number = opener_number(openers, &name.text);
-    if may_have_taken(file, fields, openers.get(number), &field.text) {
+    let number = file.opener_number(&name.text);
+    if may_have_taken(file, fields, file.openers().get(number), &field.text) {
         None
     } else {
         Some(field.place)
@@ -150,11 +151,11 @@ fn is_bad_name(rule: MentionRule, site: Site, number: usize, found: Option<&Open
     }
 }
 
-fn bad_name(rule: MentionRule, openers: &[Opener], site: Site, name: &Name) -> Option<u32>
-    ensures { result ≡ spec.bad_name rule openers.now site name.now }
+fn bad_name(rule: MentionRule, file: &IndexedFile, site: Site, name: &Name) -> Option<u32>
+    ensures { result ≡ spec.bad_name rule file.now.openers site name.now }
 {
-    let number = opener_number(openers, &name.text);
-    if is_bad_name(rule, site, number, openers.get(number)) {
+    let number = file.opener_number(&name.text);
+    if is_bad_name(rule, site, number, file.openers().get(number)) {
         Some(name.place)
     } else {
         None
@@ -163,7 +164,7 @@ fn bad_name(rule: MentionRule, openers: &[Opener], site: Site, name: &Name) -> O
 
 fn bad_aggregate(
     rule: MentionRule,
-    file: &File,
+    file: &IndexedFile,
     fields: &KnownFields,
     site: Site,
     name: &Name,
@@ -173,14 +174,14 @@ fn bad_aggregate(
 {
     match rule {
         MentionRule::UnknownField => unknown_field_of(file, fields, name, field),
-        _ => bad_name(rule, file.openers.as_slice(), site, name),
+        _ => bad_name(rule, file, site, name),
     }
 }
 
 #[cycle(mention)]
 fn bad_part(
     rule: MentionRule,
-    file: &File,
+    file: &IndexedFile,
     fields: &KnownFields,
     site: Site,
     parts: &[SynExpr],
@@ -198,7 +199,7 @@ fn bad_part(
 #[cycle(mention)]
 fn bad_term(
     rule: MentionRule,
-    file: &File,
+    file: &IndexedFile,
     fields: &KnownFields,
     site: Site,
     terms: &[SynTerm],
@@ -216,7 +217,7 @@ fn bad_term(
 #[cycle(mention)]
 fn bad_factor(
     rule: MentionRule,
-    file: &File,
+    file: &IndexedFile,
     fields: &KnownFields,
     site: Site,
     factors: &[SynFactor],
@@ -236,7 +237,7 @@ fn bad_factor(
 #[tactic(auto, unfolding(crate::specs::Mentioned::bad_expression))]
 pub fn bad_expression(
     rule: MentionRule,
-    file: &File,
+    file: &IndexedFile,
     fields: &KnownFields,
     site: Site,
     expr: &SynExpr,
@@ -248,7 +249,7 @@ pub fn bad_expression(
         SynNode::Text(_) => None,
         SynNode::Bool(_) => None,
         SynNode::Field(name) => bad_field(rule, file, fields, site, name),
-        SynNode::Count(name) => bad_name(rule, file.openers.as_slice(), site, name),
+        SynNode::Count(name) => bad_name(rule, file, site, name),
         SynNode::Of(_, name, field) => bad_aggregate(rule, file, fields, site, name, field),
         SynNode::Any(parts) => bad_part(rule, file, fields, site, parts.as_slice()),
         SynNode::All(parts) => bad_part(rule, file, fields, site, parts.as_slice()),
@@ -266,7 +267,7 @@ pub fn bad_expression(
 
 fn bad_modifier(
     rule: MentionRule,
-    file: &File,
+    file: &IndexedFile,
     fields: &KnownFields,
     number: usize,
     what: &ModKind,
@@ -285,7 +286,7 @@ fn bad_modifier(
 #[tactic(auto, unfolding(crate::specs::Mentioned::bad_opener))]
 fn bad_opener(
     rule: MentionRule,
-    file: &File,
+    file: &IndexedFile,
     fields: &KnownFields,
     number: usize,
     opener: &Opener,
@@ -302,10 +303,10 @@ fn bad_opener(
 }
 
 #[tactic(auto, unfolding(crate::specs::Mentioned::bad_conditions))]
-fn bad_conditions(rule: MentionRule, file: &File, fields: &KnownFields) -> Option<u32>
+fn bad_conditions(rule: MentionRule, file: &IndexedFile, fields: &KnownFields) -> Option<u32>
     ensures { result ≡ spec.bad_conditions rule file.now fields.now }
 {
-    let openers = file.openers.as_slice();
+    let openers = file.openers();
     for (number, opener) in openers.iter().enumerate() {
         if let Some(place) = bad_opener(rule, file, fields, number, opener) {
             return Some(place);
@@ -315,10 +316,10 @@ fn bad_conditions(rule: MentionRule, file: &File, fields: &KnownFields) -> Optio
 }
 
 #[tactic(auto, unfolding(crate::specs::Mentioned::bad_select))]
-fn bad_select(rule: MentionRule, file: &File, fields: &KnownFields) -> Option<u32>
+fn bad_select(rule: MentionRule, file: &IndexedFile, fields: &KnownFields) -> Option<u32>
     ensures { result ≡ spec.bad_select rule file.now fields.now }
 {
-    match &file.select {
+    match &file.file().select {
         None => None,
         Some(shown) => bad_part(rule, file, fields, Site::Select, shown.as_slice()),
     }
@@ -326,7 +327,7 @@ fn bad_select(rule: MentionRule, file: &File, fields: &KnownFields) -> Option<u3
 
 /// The first place where an expression of the file mentions what the rule refuses.
 #[tactic(auto, unfolding(crate::specs::Mentioned::broken_by_mention))]
-pub fn broken_by_mention(rule: MentionRule, file: &File, fields: &KnownFields) -> Option<u32>
+pub fn broken_by_mention(rule: MentionRule, file: &IndexedFile, fields: &KnownFields) -> Option<u32>
     ensures { result ≡ spec.broken_by_mention rule file.now fields.now }
 {
     earlier(

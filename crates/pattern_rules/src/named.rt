@@ -5,45 +5,12 @@ ghost use Rattle.std.specs.Str.{bytes_eq};
 ghost use Rattle.pattern_rules.specs.Named as spec;
 
 use cep_event::Text;
-use cep_syntax::{FieldDecl, Opener, TypeDecl};
+use cep_syntax::{Opener, TypeDecl};
 
-pub fn is_same(text: &Text, other: &Text) -> bool
+fn is_same(text: &Text, other: &Text) -> bool
     ensures { result ≡ bytes_eq text.now other.now }
 {
     text.as_str() == other.as_str()
-}
-
-pub fn is_type(types: &[TypeDecl], name: &Text) -> bool
-    ensures { result ≡ spec.is_type types.now name.now }
-{
-    for declared in types {
-        if is_same(&declared.name.text, name) {
-            return true;
-        }
-    }
-    false
-}
-
-pub fn is_stage(openers: &[Opener], name: &Text) -> bool
-    ensures { result ≡ spec.is_stage openers.now name.now }
-{
-    for opener in openers {
-        if is_same(&opener.name.text, name) {
-            return true;
-        }
-    }
-    false
-}
-
-pub fn is_declared(fields: &[FieldDecl], name: &Text) -> bool
-    ensures { result ≡ spec.is_declared fields.now name.now }
-{
-    for field in fields {
-        if is_same(&field.name.text, name) {
-            return true;
-        }
-    }
-    false
 }
 
 /// The number of the type, or how many types there are.

@@ -1,6 +1,6 @@
 //! The rules in their order.
 
-ghost use Rattle.std.specs.Prelude.{◌≡◌};
+ghost use Rattle.std.specs.Prelude.{◌≡◌, IfOk};
 ghost use Rattle.pattern_rules.specs.First.{first_some};
 ghost use Rattle.pattern_rules.specs.Rules as spec;
 
@@ -12,6 +12,7 @@ use crate::code::{
 };
 use crate::declarations::{field_kinds, twice_type};
 use crate::fields::KnownFields;
+use crate::indexed::IndexedFile;
 use crate::kind::kind_clash;
 use crate::mention::{MentionRule, broken_by_mention};
 use crate::stage::{StageRule, broken_in_stages};
@@ -19,7 +20,9 @@ use crate::stages::{
     ends_with_not, not_after_optional, too_many_stages, too_many_states, twice_stage,
 };
 use crate::whole::{bad_within, skip_name};
+use cep_event::NoMemory;
 use cep_syntax::File;
+use std::alloc::Global;
 
 /// A rule of files.
 #[derive(Clone, Copy, Debug, PartialEq, Eq)]
@@ -45,24 +48,27 @@ pub struct Fault {
     pub code: u8,
 }
 
-fn broken_by(file: &File, fields: &KnownFields, rule: Rule) -> Option<u32>
-    ensures { result ≡ spec.broken_by file.now fields.now rule }
+fn broken_by(
+    alloc: Global,
+    file: &IndexedFile,
+    fields: &KnownFields,
+    rule: Rule,
+) -> Result<Option<u32>, NoMemory>
+    ensures { IfOk result (λ place. place ≡ spec.broken_by file.now fields.now rule) }
 {
     match rule {
-        Rule::TwiceType => twice_type(file.types.as_slice()),
-        Rule::FieldKinds => field_kinds(fields, file.types.as_slice()),
-        Rule::Stage(asked) => {
-            broken_in_stages(asked, file.types.as_slice(), file.openers.as_slice())
-        }
-        Rule::TwiceStage => twice_stage(file.openers.as_slice()),
-        Rule::EndsWithNot => ends_with_not(file.openers.as_slice()),
-        Rule::NotAfterOptional => not_after_optional(file.openers.as_slice()),
-        Rule::Mention(asked) => broken_by_mention(asked, file, fields),
-        Rule::KindClash => kind_clash(fields, file),
-        Rule::BadWithin => bad_within(file.within),
-        Rule::SkipName => skip_name(file.openers.as_slice(), &file.skip),
-        Rule::TooManyStages => too_many_stages(file.openers.as_slice()),
-        Rule::TooManyStates => too_many_states(file.openers.as_slice()),
+        Rule::TwiceType => Ok(twice_type(file)),
+        Rule::FieldKinds => field_kinds(alloc, fields, file.types()),
+        Rule::Stage(asked) => Ok(broken_in_stages(asked, file)),
+        Rule::TwiceStage => Ok(twice_stage(file)),
+        Rule::EndsWithNot => Ok(ends_with_not(file.openers())),
+        Rule::NotAfterOptional => Ok(not_after_optional(file.openers())),
+        Rule::Mention(asked) => Ok(broken_by_mention(asked, file, fields)),
+        Rule::KindClash => Ok(kind_clash(fields, file.file())),
+        Rule::BadWithin => Ok(bad_within(file.file().within)),
+        Rule::SkipName => Ok(skip_name(file.openers(), &file.file().skip)),
+        Rule::TooManyStages => Ok(too_many_stages(file.openers())),
+        Rule::TooManyStates => Ok(too_many_states(file.openers())),
     }
 }
 
@@ -75,22 +81,41 @@ fn fault_at(code: u8, place: Option<u32>) -> Option<Fault>
     }
 }
 
-fn first_fault(file: &File, fields: &KnownFields, rules: &[(u8, Rule)]) -> Option<Fault>
-    ensures { result ≡ first_some (spec.fault_by file.now fields.now) rules.now }
+fn fault_by(
+    alloc: Global,
+    file: &IndexedFile,
+    fields: &KnownFields,
+    code: u8,
+    rule: Rule,
+) -> Result<Option<Fault>, NoMemory>
+    ensures { IfOk result (λ fault. fault ≡ spec.fault_by file.now fields.now (code, rule)) }
 {
-    for (code, rule) in rules {
-        if let Some(fault) = fault_at(*code, broken_by(file, fields, *rule)) {
-            return Some(fault);
-        }
-    }
-    None
+    let place = broken_by(alloc, file, fields, rule)?;
+    Ok(fault_at(code, place))
 }
 
-/// The lowest code whose rule the file breaks, with the first place where it does. The fields are those that the file knows.
-#[tactic(auto, unfolding(crate::specs::Rules::fault_with))]
-pub fn fault_in(file: &File, fields: &KnownFields) -> Option<Fault>
-    ensures { result ≡ spec.fault_with fields.now file.now }
+fn first_fault(
+    alloc: Global,
+    file: &IndexedFile,
+    fields: &KnownFields,
+    rules: &[(u8, Rule)],
+) -> Result<Option<Fault>, NoMemory>
+    ensures { IfOk result (λ fault. fault ≡ first_some (spec.fault_by file.now fields.now) rules.now) }
 {
+    for (code, rule) in rules {
+        if let Some(fault) = fault_by(alloc, file, fields, *code, *rule)? {
+            return Ok(Some(fault));
+        }
+    }
+    Ok(None)
+}
+
+/// The lowest code whose rule the file breaks, with the first place where it does. The fields are those that the file knows. Want of memory may come at any file, since its names are indexed first.
+#[tactic(auto, unfolding(crate::specs::Rules::fault_with))]
+pub fn fault_in(alloc: Global, file: &File, fields: &KnownFields) -> Result<Option<Fault>, NoMemory>
+    ensures { IfOk result (λ fault. fault ≡ spec.fault_with fields.now file.now) }
+{
+    let file = IndexedFile::new(alloc, file)?;
     let rules = [
         (TWICE_TYPE, Rule::TwiceType),
         (FIELD_KINDS, Rule::FieldKinds),
@@ -117,5 +142,5 @@ pub fn fault_in(file: &File, fields: &KnownFields) -> Option<Fault>
         (TOO_MANY_STAGES, Rule::TooManyStages),
         (TOO_MANY_STATES, Rule::TooManyStates),
     ];
-    first_fault(file, fields, &rules)
+    first_fault(alloc, &file, fields, &rules)
 }

@@ -5,9 +5,9 @@ ghost use Rattle.std.specs.Option.{option_copied};
 ghost use Rattle.pattern_rules.specs.Stages as spec;
 
 use crate::bounds::is_negated;
-use crate::named::is_type;
+use crate::indexed::IndexedFile;
 use crate::role::{Role, first_again, first_of, has};
-use cep_syntax::{Name, Opener, TypeDecl};
+use cep_syntax::{Name, Opener};
 
 #[derive(Clone, Copy, Debug, PartialEq, Eq)]
 pub enum StageRule {
@@ -21,13 +21,13 @@ pub enum StageRule {
 }
 
 /// `of` names no declared type.
-fn unknown_type(types: &[TypeDecl], of: &Option<Name>) -> Option<u32>
-    ensures { result ≡ spec.unknown_type types.now of.now }
+fn unknown_type(file: &IndexedFile, of: &Option<Name>) -> Option<u32>
+    ensures { result ≡ spec.unknown_type file.now.types of.now }
 {
     match of {
         None => None,
         Some(name) => {
-            if is_type(types, &name.text) {
+            if file.is_type(&name.text) {
                 None
             } else {
                 Some(name.place)
@@ -94,11 +94,11 @@ fn until_without_open_loop(opener: &Opener) -> Option<u32>
     }
 }
 
-fn broken_in_stage(rule: StageRule, types: &[TypeDecl], opener: &Opener) -> Option<u32>
-    ensures { result ≡ spec.broken_in_stage rule types.now opener.now }
+fn broken_in_stage(rule: StageRule, file: &IndexedFile, opener: &Opener) -> Option<u32>
+    ensures { result ≡ spec.broken_in_stage rule file.now.types opener.now }
 {
     match rule {
-        StageRule::UnknownType => unknown_type(types, &opener.of),
+        StageRule::UnknownType => unknown_type(file, &opener.of),
         StageRule::QuantifierOnNot => quantifier_on_not(opener),
         StageRule::TwiceQuantifier => twice_quantifier(opener),
         StageRule::BadTimes => bad_times(opener),
@@ -110,11 +110,11 @@ fn broken_in_stage(rule: StageRule, types: &[TypeDecl], opener: &Opener) -> Opti
 
 /// The first place where a stage breaks the rule.
 #[tactic(auto, unfolding(crate::specs::Stages::broken_in_stages))]
-pub fn broken_in_stages(rule: StageRule, types: &[TypeDecl], openers: &[Opener]) -> Option<u32>
-    ensures { result ≡ spec.broken_in_stages rule types.now openers.now }
+pub fn broken_in_stages(rule: StageRule, file: &IndexedFile) -> Option<u32>
+    ensures { result ≡ spec.broken_in_stages rule file.now.types file.now.openers }
 {
-    for opener in openers {
-        if let Some(place) = broken_in_stage(rule, types, opener) {
+    for opener in file.openers() {
+        if let Some(place) = broken_in_stage(rule, file, opener) {
             return Some(place);
         }
     }

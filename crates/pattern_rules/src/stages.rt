@@ -5,7 +5,7 @@ ghost use Rattle.std.specs.Option.{option_copied};
 ghost use Rattle.pattern_rules.specs.Stages as spec;
 
 use crate::bounds::{is_negated, states_of};
-use crate::named::is_stage;
+use crate::indexed::IndexedFile;
 use crate::role::{Role, has};
 use cep_syntax::Opener;
 
@@ -17,11 +17,11 @@ pub const MOST_STATES: u64 = 1024;
 
 /// A stage's name, negated or not, stood before.
 #[tactic(auto, unfolding(crate::specs::Stages::twice_stage))]
-pub fn twice_stage(openers: &[Opener]) -> Option<u32>
-    ensures { result ≡ spec.twice_stage openers.now }
+pub fn twice_stage(file: &IndexedFile) -> Option<u32>
+    ensures { result ≡ spec.twice_stage file.now.openers }
 {
-    for (number, opener) in openers.iter().enumerate() {
-        if is_stage(&openers[..number], &opener.name.text) {
+    for (number, opener) in file.openers().iter().enumerate() {
+        if file.is_stage_before(number, &opener.name.text) {
             return Some(opener.name.place);
         }
     }

@@ -1,3 +1,5 @@
 pub mod Fate
 pub mod Content
 pub mod Runs
+pub mod Waiting
+pub mod Grouped

@@ -2,14 +2,20 @@
 #![tactic(auto)]
 
 mod advance;
+mod alone;
 mod candidate;
 mod follow;
 mod gap;
+mod group;
+mod groups;
 mod lists;
+mod passed;
 mod runs;
 mod shown;
 #[cfg(test)]
 mod tests;
+mod untouched;
+mod waits;
 
 pub use advance::{kill, step};
 pub use runs::{ListRun, RunSet, TakenLists};

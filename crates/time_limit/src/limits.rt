@@ -1,7 +1,7 @@
-ghost use Rattle.std.specs.Prelude.{◌≡◌, ◌<◌, ◌++◌, [], ◌∷◌, Bool, true, not, filter, int_le, OnOk, OnErr};
+ghost use Rattle.std.specs.Prelude.{◌≡◌, ◌≤◌, ◌<◌, ◌++◌, [], ◌∷◌, Bool, true, not, length, filter, take, drop, int_le, OnOk, OnErr};
 ghost use Rattle.std.specs.List.{AllByRecursion as Each};
 ghost use Rattle.live_laws.specs.Starts.{is_from};
-ghost use Rattle.time_limit.specs.Limits.{limited, is_over, is_front_over, first_over, without_first_over};
+ghost use Rattle.time_limit.specs.Limits.{limited, is_over, is_front_over, first_over, without_first_over, AreInOrder};
 
 use cep_event::{Moment, NoMemory};
 use std::alloc::Global;
@@ -55,6 +55,28 @@ pub fn is_front_reached(within: Option<u64>, now: Moment, starts: &VecDeque<Star
     }
 }
 
+/// How many of the starts are before the position.
+pub fn place_of(starts: &VecDeque<Start>, position: u32) -> usize
+    requires { AreInOrder starts.now.items }
+    ensures bound { result ≤ length starts.now.items }
+    ensures before { Each (λ s. s.position < position) (take result starts.now.items) }
+    ensures behind { Each (λ s. position ≤ s.position) (drop result starts.now.items) }
+{
+    starts.partition_point(|start| start.position < position)
+}
+
+/// Takes out the starts between the two places.
+pub fn drop_between(starts: &mut VecDeque<Start>, first: usize, end: usize)
+    requires order { first ≤ end }
+    requires bound { end ≤ length starts.old.items }
+    ensures { starts.new.items ≡ take first starts.old.items ++ drop end starts.old.items }
+{
+    // To take out none would still turn the queue.
+    if first < end {
+        starts.drain(first..end);
+    }
+}
+
 impl Limits {
     /// No start is kept. It takes no memory.
     pub fn new(alloc: Global, within: Option<u64>) -> Limits
@@ -99,7 +121,10 @@ impl Limits {
     pub fn drop_range(&mut self, from: u32, to: u32)
         ensures { self.new ≡ record self.old { starts = filter (λ s. not (is_from from to s.position)) self.old.starts } }
     {
-        self.starts
-            .retain(|start| !(from <= start.position && start.position < to));
+        if from < to {
+            let first = place_of(&self.starts, from);
+            let end = place_of(&self.starts, to);
+            drop_between(&mut self.starts, first, end);
+        }
     }
 }

@@ -6,7 +6,7 @@ use Rattle.pattern_rules.proofs.mention.+mention.Goals as goal
 
 pub bad_expression-returns-in-Any : goal.bad_expression-returns-in-Any
 unfolding bad_expression
-bad_expression-returns-in-Any t c = c.bad_part.ensures ∙ mentions-Any (bad_mention c.args.rule c.args.file.now c.args.fields.now c.args.site) c.args.expr.now c.in-Any.parts c.as_slice-in-Any.result.now c.in-Any.is c.as_slice-in-Any.ensures
+bad_expression-returns-in-Any t c = c.bad_part.ensures ∙ mentions-Any (bad_mention c.args.rule c.args.file.now c.args.fields.now c.args.site) c.args.expr.now c.in-Any.parts c.as_slice.result.now c.in-Any.is c.as_slice.ensures
 
 pub bad_expression-returns-in-All : goal.bad_expression-returns-in-All
 unfolding bad_expression

@@ -1,7 +1,11 @@
-use Rattle.cep_cli.proofs.BegunLaws.{begun}
+use Rattle.std.proofs.Common.{[]}
+use Rattle.cep_cli.proofs.BegunLaws.{begun, lag_of}
 use Rattle.cep_cli.proofs.run.EngineRun.new.Goals as goal
 
-pub returns : goal.returns
-returns c =
+pub returns-clause-run : goal.returns-clause-run
+returns-clause-run c =
     let fresh = c.in_ok-new.ensures.fresh in
-    begun c.args.lag c.args.plan c.new.result _ c.new.ensures fresh.0 c.in_ok-new.ensures.stands fresh.3 c.requires
+    begun c.args.header c.args.lag c.args.plan c.new.result _ c.new.ensures fresh.0 c.in_ok-new.ensures.stands fresh.3 c.requires
+
+pub returns-clause-lag : goal.returns-clause-lag
+returns-clause-lag c = lag_of c.args.lag [] c.new.result c.new.ensures

@@ -13,7 +13,7 @@ pub returns : goal.returns
 returns c = λ m lines run.
     let s = c.args.self in
     let lag = s.order.lag in
-    let records = records_of s.engine.plan.types lines in
+    let records = records_of s.header s.engine.plan.types lines in
     let ticks = ticks_of lag records in
     let order = c.end.new.self in
     let engine = c.release.new.engine in

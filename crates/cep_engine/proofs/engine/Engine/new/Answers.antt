@@ -14,7 +14,7 @@ pub returns-clause-stands : goal.returns-clause-stands
 unfolding kept history
 returns-clause-stands c = record {
   parts = record {
-    runs = c.in_ok-runs.ensures (open_after c.args.plan []);
+    runs = c.in_ok-runs.ensures c.args.plan (open_after c.args.plan []) c.in_ok-nfa.ensures;
     limits = c.new-limits.ensures ∙ (λ i. record { within = c.args.plan.within; starts = none_kept c.args.plan.within i });
     below = tt;
   };
@@ -22,4 +22,4 @@ returns-clause-stands c = record {
 }
 
 pub returns-clause-fresh : goal.returns-clause-fresh
-returns-clause-fresh c = (refl, refl, (c.in_ok-runs.ensures (λ _. true)).0, c.new-2.ensures, refl)
+returns-clause-fresh c = (refl, refl, (c.in_ok-runs.ensures c.args.plan (λ _. true) c.in_ok-nfa.ensures).0, c.new-2.ensures, refl)

@@ -16,6 +16,6 @@ returns-clause-stands c = λ ticks stands.
     let parts = subst (λ v. PartsStand v.plan ticks v.runs v.limits) (sym c.self.view_is) stands.parts in
     let later = comes_later c.args.self.now.last ticks event.ts stands.last c.requires.time in
     record {
-      parts = c.in_ok-made.ensures.parts ticks parts later c.self.invariant.1;
+      parts = c.in_ok-made.ensures.parts ticks parts later c.self.invariant.room;
       last = ap (λ (t : ℤ). Some (At t)) trip ∙ sym (last_time-push ticks (event_tick event));
     }

@@ -16,8 +16,8 @@ invariant_of-self-2 c =
     let trip : time ≡ c.args.time = to_z-of_z w64 c.args.time fits in
     let fresh = ap (λ v. v.spent) c.self.view_is ∙ c.requires.fresh in
     let not_before : IsNotBefore c.self.inside.last time = subst (IsNotBefore c.self.inside.last) (sym trip) (subst (λ v. IsNotBefore v.last c.args.time) (sym c.self.view_is) c.requires.time) in
-    let behind = behind_later c.self.inside.runs.position c.self.inside.last c.self.inside.limits.starts time (c.self.invariant.2 fresh) not_before in
-    (c.self.invariant.0, c.self.invariant.1, (λ _. c.in_ok-made.ensures.behind time behind))
+    let behind = behind_later c.self.inside.runs.position c.self.inside.last c.self.inside.limits.starts time (c.self.invariant.behind fresh) not_before in
+    record { plan = c.self.invariant.plan; nfa = c.self.invariant.nfa; room = c.self.invariant.room; behind = λ _. c.in_ok-made.ensures.behind time behind }
 
 pub returns-clause-stands : goal.returns-clause-stands
 returns-clause-stands c = λ ticks stands.

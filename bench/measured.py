@@ -1,0 +1,24 @@
+#!/usr/bin/env python3
+"""Runs a command over a file and prints its seconds, its greatest memory in MB and the number of lines that it printed.
+
+usage: measured.py INPUT COMMAND [WORD ..]
+"""
+import resource
+import subprocess
+import sys
+import time
+
+
+def main():
+    with open(sys.argv[1], "rb") as rows:
+        start = time.monotonic()
+        run = subprocess.Popen(sys.argv[2:], stdin=rows, stdout=subprocess.PIPE)
+        lines = sum(piece.count(b"\n") for piece in iter(lambda: run.stdout.read(1 << 16), b""))
+        status = run.wait()
+    seconds = time.monotonic() - start
+    megabytes = resource.getrusage(resource.RUSAGE_CHILDREN).ru_maxrss // 1024
+    print(f"{seconds:.2f} s, {megabytes} MB, {lines} lines" + (f", status {status}" if status else ""))
+
+
+if __name__ == "__main__":
+    main()

@@ -1,0 +1,39 @@
+use Rattle.std.proofs.Common.{◌≡◌, inl, inr, ◌⊎◌, ap, ◌∙◌, subst}
+use Rattle.std.specs.Prelude.{Ok, Err}
+use Rattle.cep_session.specs.declared.status.Status.{Status}
+use Rattle.cep_session.specs.declared.status.Status.TheVariants as status
+use Rattle.cep_cli.specs.Pattern.{AreShownAs}
+use Rattle.cep_cli.specs.Verdict.{HasPrinted}
+use Rattle.cep_cli.proofs.PatternLaws.{one_shown}
+use Rattle.cep_cli.proofs.StopLaws.{refused-stops, refused-not-accepted, same-accepted, accepted-stops, fault-told, printed-nothing}
+use Rattle.cep_cli.proofs.program.show_file.Goals as goal
+
+pub returns-in-Ok-clause-refused_pattern : goal.returns-in-Ok-clause-refused_pattern
+returns-in-Ok-clause-refused_pattern g c = λ content code place told refused.
+    absurd (refused-not-accepted (AreShownAs c.args.form content) (one_shown c.args.form content) c.in-Ok.text (record { place = place; code = code }) (c.in-Ok.ensures.told content told) refused)
+
+pub returns-in-Ok-clause-printed : goal.returns-in-Ok-clause-printed
+returns-in-Ok-clause-printed g c = λ content text told printed.
+    let same = same-accepted (AreShownAs c.args.form content) (one_shown c.args.form content) c.in-Ok.text text (c.in-Ok.ensures.told content told) printed in
+    subst (λ t. HasPrinted c.write_text.result (g.K.Sink.taken c.args.output.now) (g.K.Sink.taken c.write_text.new.output) t) (c.as_bytes.ensures.value ∙ c.as_str.ensures ∙ same) c.write_text.ensures.printed
+
+done : (s : Status) → (s ≡ status.Done) ⊎ (s ≡ status.WriteFault) → (s ≡ status.WriteFault → ⊥) → s ≡ status.Done
+done s (inl is) good = is
+done s (inr is) good = absurd (good is)
+
+pub returns-in-Ok-clause-complete : goal.returns-in-Ok-clause-complete
+returns-in-Ok-clause-complete g c = λ content told no_file no_write memory.
+    (Ok c.in-Ok.text, c.in-Ok.ensures.told content told, done c.write_text.result c.write_text.ensures.status (λ is. no_write (c.write_text.ensures.write is)))
+
+pub returns-in-Err-clause-refused_pattern : goal.returns-in-Err-clause-refused_pattern
+returns-in-Err-clause-refused_pattern g c = λ content code place told refused.
+    refused-stops (AreShownAs c.args.form content) (one_shown c.args.form content) c.in-Err.stop c.status.result code place c.status.ensures.told (c.in-Err.ensures.told content told) refused
+
+pub returns-in-Err-clause-printed : goal.returns-in-Err-clause-printed
+returns-in-Err-clause-printed g c = λ content text told printed.
+    printed-nothing c.in-Err.stop c.status.result (g.K.Sink.taken c.args.output.now) text c.status.ensures.told (accepted-stops (AreShownAs c.args.form content) (one_shown c.args.form content) c.in-Err.stop text (c.in-Err.ensures.told content told) printed)
+
+pub returns-in-Err-clause-complete : goal.returns-in-Err-clause-complete
+returns-in-Err-clause-complete g c = λ content told no_file no_write memory.
+    let f = fault-told (AreShownAs c.args.form content) c.in-Err.stop c.status.result c.status.ensures.told (c.in-Err.ensures.told content told) (λ failed. no_file (c.in-Err.ensures.failed (ap (λ w. Err w) failed))) memory in
+    (Err f.0, f.1, f.2)

@@ -1,0 +1,4 @@
+pub mod ByteLaws
+pub mod LineLaws
+pub mod ReadLaws
+pub mod TextLaws

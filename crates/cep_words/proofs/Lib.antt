@@ -1,0 +1,10 @@
+mod NumberLaws
+mod ClapRows
+mod ClapApp
+mod ClapWords
+mod ClapSteps
+mod ClapLost
+mod ClapRule
+mod ClapRun
+mod ClapDash
+mod ClapLaws

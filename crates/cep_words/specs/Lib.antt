@@ -1,0 +1,5 @@
+pub mod Number
+pub mod Reading
+pub mod Read
+pub mod Words
+pub mod App

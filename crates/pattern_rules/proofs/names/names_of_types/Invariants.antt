@@ -1,0 +1,6 @@
+use Rattle.std.proofs.Common.{map, take}
+use Rattle.pattern_rules.specs.Names.{IsIndexOf}
+use Rattle.pattern_rules.proofs.names.names_of_types.Given as goal
+
+abbrev pub invariant-loop-number : goal.invariant-loop-number
+invariant-loop-number l = IsIndexOf l.names (map (λ d. d.name.text) (take l.number l.types))
