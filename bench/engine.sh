@@ -3,17 +3,10 @@
 # It wants the program at crates/cep/out/cep (see README.md), rustc and python3. usage: bench/engine.sh [ROWS]
 set -eu
 cd "$(dirname "$0")/.."
-folder=$(mktemp -d)
-trap 'rm -rf "$folder"' EXIT
 rows=${1:-1000000}
-cep=crates/cep/out/cep
+. bench/common.sh
 
-python3 - "$rows" >"$folder/trades.csv" <<'PYTHON'
-import random, sys
-random.seed(7)
-for i in range(int(sys.argv[1])):
-    print(f"Trade,{i},S{random.randrange(8)},{random.randrange(1000)}")
-PYTHON
+trades "$folder/trades.csv"
 python3 - "$rows" >"$folder/mixed.csv" <<'PYTHON'
 import sys
 n = int(sys.argv[1])
@@ -32,18 +25,17 @@ import sys
 for i in range(int(sys.argv[1])):
     print(f"Tick,{i},{i % 7}")
 PYTHON
-rustc -O -o "$folder/split" bench/split.rs
 
 # The pattern NAME over the rows of FILE, with further words.
 pattern() {
     local name=$1 input=$2 text=$3
     shift 3
     printf '%s\n' "event Trade(sym text, price int); event Open(id int); event Close(id int); event Other(); event Tick(v int);" "$text" >"$folder/p.cep"
-    echo "$name: $(python3 bench/measured.py "$folder/$input" $cep run "$folder/p.cep" "$@")"
+    echo "$name: $(measured "$folder/$input" $cep run "$folder/p.cep" "$@")"
 }
 
 echo "rows: $rows"
-echo "plain split of the trades: $(python3 bench/measured.py "$folder/trades.csv" "$folder/split")"
+echo "plain split of the trades: $(measured "$folder/trades.csv" "$folder/split")"
 pattern "two relaxed stages within a limit" trades.csv 'pattern begin("a").of(Trade).where(price > 990).followedBy("b").of(Trade).where(price < 10 && sym == last("a").sym).within(1000);' --lag 0
 pattern "two relaxed stages, one row in a hundred begins" trades.csv 'pattern begin("a").of(Trade).where(price >= 990).followedBy("b").of(Trade).where(price < 1 && sym == last("a").sym);' --lag 0
 pattern "10,000 partial matches that see other types" mixed.csv 'pattern begin("a").of(Open).followedByAny("b").of(Close).where(id == last("a").id);' --lag 0

@@ -1,8 +1,8 @@
 #!/usr/bin/env python3
 """Runs random patterns over random rows and compares what the program prints with what docs/MEANING.md says.
 
-Each list of events is judged as a whole, by brute force: nothing here is shared with the program. Before that come a few large
-patterns whose matches are counted out by hand.
+Each list of events is judged as a whole, by brute force: nothing here is shared with the program. Some fields of the rows stand in
+quotes. Before that come a few large patterns whose matches are counted out by hand.
 usage: meaning.py PROGRAM [CASES [SEED]]
 """
 import itertools
@@ -365,10 +365,12 @@ def random_records(dice):
     return records
 
 
-def line_of(record):
+def line_of(record, dice):
     if isinstance(record, Event):
-        return f"{record.kind},{record.time}" + (f",{record.value}" if TYPES[record.kind] else "")
-    return f"@,{record}"
+        fields = [record.kind, record.time] + ([record.value] if TYPES[record.kind] else [])
+    else:
+        fields = ["@", record]
+    return ",".join(f'"{field}"' if dice.random() < 0.1 else str(field) for field in fields)
 
 
 # ---- large patterns
@@ -439,7 +441,7 @@ def main():
     for case in range(cases):
         pattern, text = random_pattern(dice)
         records, lag = random_records(dice), dice.choice([None, None, 0, 1, 3])
-        rows = "".join(line_of(record) + "\n" for record in records)
+        rows = "".join(line_of(record, dice) + "\n" for record in records)
         wanted = expected(pattern, records, lag)
         done = printed(program, text, rows, [] if lag is None else ["--lag", str(lag)])
         if differs(f"case {case}, lag {lag}", done, text, rows, wanted):

@@ -6,6 +6,7 @@ pub mod TickLaws
 pub mod RunLaws
 pub mod RowLaws
 pub mod ShortLaws
+pub mod RunningLaws
 pub mod BegunLaws
 pub mod SummaryLaws
 pub mod LoadLaws

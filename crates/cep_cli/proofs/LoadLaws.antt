@@ -1,5 +1,5 @@
 -- What a load run has counted, one line after another.
-use Rattle.std.proofs.Common.{◌≡◌, refl, sym, ◌∙◌, ap, subst, ℕ, ◌+◌, ◌<◌, ◌-◌, ◌^◌, append-nil, append_assoc, map, Bool, not, ◌&&◌, List, [], ◌∷◌, ◌++◌, length, length-append, Option, None, arith}
+use Rattle.std.proofs.Common.{◌≡◌, refl, sym, ◌∙◌, ap, subst, ℕ, ◌+◌, ◌≤◌, ◌<◌, ◌-◌, ◌^◌, append-nil, append_assoc, map, Bool, not, ◌&&◌, List, [], ◌∷◌, ◌++◌, length, length-append, Option, None, arith}
 use Rattle.std.specs.Prelude.{Ok}
 use Rattle.std.specs.List.{count_by, list_any}
 use Rattle.std.specs.Option.{option_to_list}
@@ -27,7 +27,7 @@ use Rattle.cep_cli.specs.Counted.{HasCounted, counts_before_end, counts_with}
 use Rattle.cep_cli.specs.Load.{counts_of, is_match, is_timeout, late_rows, whole_counts}
 use Rattle.cep_cli.specs.Meaning.{meaning_of, late_in, kept_items, added_items, caused_text}
 use Rattle.cep_cli.specs.Records.{record_in, records_of}
-use Rattle.cep_cli.specs.Run.{HasRun}
+use Rattle.cep_cli.specs.Run.{HasRun, IsRunning, taken_and_waiting}
 use Rattle.cep_cli.specs.Ticks.{HasTaken, kept_more}
 use Rattle.cep_cli.proofs.BegunLaws.{lag_of, records-push, gone-on, end-added}
 use Rattle.cep_cli.proofs.TickLaws.{added-more, kept_items-append, kept_more-append}
@@ -88,10 +88,11 @@ pub counted-line : (lines : List (List ℕ)) (line : List ℕ) (next : LineRecor
     (added_items a.plan (ticks_of o.lag (records_of header a.plan.types lines)) (ticks_of o.lag (records_of header a.plan.types lines ++ next ∷ [])))
     → p ≡ order_of o.lag (arrivals_of o.lag (records_of header a.plan.types lines ++ next ∷ []))
     → StandsFor (ticks_of o.lag (records_of header a.plan.types lines ++ next ∷ [])) b → b.items ≡ []
+    → IsRunning p b → taken_and_waiting p.waiting b ≤ taken_and_waiting o.waiting a + 1
     → HasCounted after p b (handled + 1) d (lines ++ line ∷ [])
-counted-line lines line next header after o p a b handled c d h same_header few is same told ordered stands empty =
+counted-line lines line next header after o p a b handled c d h same_header few is same told ordered stands empty running grown =
     let records = records_of header a.plan.types lines in
-    let gone = gone-on (meaning_of header o.lag a.plan) lines line (caused_text o.lag a.plan records next) next header after o p a b handled h.run same_header few is same refl ordered stands empty in
+    let gone = gone-on (meaning_of header o.lag a.plan) lines line (caused_text o.lag a.plan records next) next header after o p a b handled h.run same_header few is same refl ordered stands empty running grown in
     let lag : p.lag ≡ o.lag = lag_of o.lag (arrivals_of o.lag (records ++ next ∷ [])) p ordered in
     let read : record_in header a.plan.types (length lines + 1) line ≡ Ok next = ap (λ (k : ℕ). record_in header a.plan.types (k + 1) line) (sym h.run.counted) ∙ is in
     let all : records_of header a.plan.types (lines ++ line ∷ []) ≡ records ++ next ∷ [] = records-push header a.plan.types lines line next read in

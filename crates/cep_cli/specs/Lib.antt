@@ -4,7 +4,6 @@ pub mod Records
 pub mod Meaning
 pub mod Verdict
 pub mod Ticks
-pub mod Short
 pub mod Run
 pub mod Load
 pub mod Counted

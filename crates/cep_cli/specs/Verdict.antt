@@ -25,15 +25,19 @@ abbrev pub show_verdict : Result (List ℕ) Fault → Status
 show_verdict (Err fault) = PatternRefused fault.code fault.place
 show_verdict (Ok text) = Done
 
-abbrev pub IsVerdictIn : Mode → Options → List ℕ → List ℕ → Status → Type 0
-IsVerdictIn Run options file input status = (answer : Result Plan Fault) × ArePlannedAs file answer × (status ≡ run_verdict options answer input)
-IsVerdictIn Check options file input status = (answer : Result (List ℕ) Fault) × ArePrintedAs file answer × (status ≡ show_verdict answer)
-IsVerdictIn Explain options file input status = (answer : Result (List ℕ) Fault) × AreExplainedAs file answer × (status ≡ show_verdict answer)
-IsVerdictIn Load options file input status = (answer : Result (List ℕ) Fault) × AreSummedAs options file answer × (status ≡ show_verdict answer)
-
--- the status with these options, where the pattern file and the input hold these bytes
+-- the status of a run with these options, where the pattern file and the input hold these bytes
 abbrev pub IsVerdict : Options → List ℕ → List ℕ → Status → Type 0
-IsVerdict options file input status = IsVerdictIn options.mode options file input status
+IsVerdict options file input status = (answer : Result Plan Fault) × ArePlannedAs file answer × (status ≡ run_verdict options answer input)
+
+-- the same in a mode that shows a text, which takes nothing of the input; a run shows none
+abbrev pub IsShownVerdictIn : Mode → Options → List ℕ → Status → Type 0
+IsShownVerdictIn Run options file status = ⊥
+IsShownVerdictIn Check options file status = (answer : Result (List ℕ) Fault) × ArePrintedAs file answer × (status ≡ show_verdict answer)
+IsShownVerdictIn Explain options file status = (answer : Result (List ℕ) Fault) × AreExplainedAs file answer × (status ≡ show_verdict answer)
+IsShownVerdictIn Load options file status = (answer : Result (List ℕ) Fault) × AreSummedAs options file answer × (status ≡ show_verdict answer)
+
+abbrev pub IsShownVerdict : Options → List ℕ → Status → Type 0
+IsShownVerdict options file status = IsShownVerdictIn options.mode options file status
 
 -- a fact that holds of the statuses that come before the input is read
 abbrev pub IfUnread : Status → Type 0 → Type 0

@@ -14,11 +14,11 @@ ghost use Rattle.cep_cli.specs.Counted.{HasCounted, counts_with};
 ghost use Rattle.cep_cli.specs.Load.{is_match, is_timeout, load_summary, whole_counts};
 ghost use Rattle.cep_cli.specs.Meaning.{added_items, late_in};
 ghost use Rattle.cep_cli.specs.Records.{record_in, records_of};
-ghost use Rattle.cep_cli.specs.Run.{ComesBehind};
+ghost use Rattle.cep_cli.specs.Run.{CanTake, ComesBehind, IsRunning, taken_and_waiting};
 ghost use Rattle.cep_cli.specs.Ticks.{kept_more};
 
 use crate::run::{EngineRun, feed, record_in, take_record};
-use cep_engine::Engine;
+use cep_engine::{Engine, EngineFault};
 use cep_event::{EventType, EventTypeList, Field, FieldList, LineRecord, NoMemory, Text};
 use cep_load::{Generated, summary};
 use cep_plan::{Item, ItemList, NegationList, Plan, Skip, StageList};
@@ -132,7 +132,9 @@ fn read_next(run: &EngineRun, line: &Line, row: u32) -> Result<LineRecord, NoMem
 
 // Takes a record, and counts what it causes.
 fn count_record(run: &mut EngineRun, next: LineRecord, counts: Counts) -> Result<Counts, NoMemory>
-    requires { ComesBehind run.old.order.waiting next }
+    requires rows { ComesBehind run.old.order.waiting next }
+    requires running { IsRunning run.old.order run.old.engine }
+    requires room { taken_and_waiting run.old.order.waiting run.old.engine < 2 ^ 32 - 1 }
     ensures plan { run.new.engine.plan ≡ run.old.engine.plan }
     ensures header { run.new.header ≡ run.old.header }
     ensures handled { run.new.handled ≡ run.old.handled }
@@ -143,6 +145,8 @@ fn count_record(run: &mut EngineRun, next: LineRecord, counts: Counts) -> Result
     ensures engine { (lag : Option ℕ) (records : List LineRecord) → run.old.order ≡ order_of lag (arrivals_of lag records) → StandsFor (ticks_of lag records) run.old.engine
         → IfOk result (λ made. StandsFor (ticks_of lag (records ++ next ∷ [])) run.new.engine) }
     ensures items { OnOk result (run.new.engine.items ≡ []) }
+    ensures running { OnOk result (IsRunning run.new.order run.new.engine) }
+    ensures grown { OnOk result (taken_and_waiting run.new.order.waiting run.new.engine ≤ taken_and_waiting run.old.order.waiting run.old.engine + 1) }
 {
     let late = take_record(&mut run.order, &mut run.engine, next)?;
     let items = run.engine.items();
@@ -200,9 +204,12 @@ fn drain(engine: &mut Engine, counts: Counts) -> Result<Counts, NoMemory>
 
 // Hands all events that are ready to the engine, and counts the items of each before the next, so that they never gather.
 fn count_ready(order: &mut Order, engine: &mut Engine, counts: Counts) -> Result<Counts, NoMemory>
-    requires { engine.old.items ≡ [] }
+    requires items { engine.old.items ≡ [] }
+    requires takes { CanTake order.old.waiting engine.old }
+    requires room { taken_and_waiting order.old.waiting engine.old < 2 ^ 32 }
     ensures plan { engine.new.plan ≡ engine.old.plan }
     ensures items { OnOk result (engine.new.items ≡ []) }
+    ensures fresh { OnOk result (engine.new.spent ≡ false) }
     ensures stands { (ticks : List Tick) → StandsFor ticks engine.old → IfOk result (λ made. StandsFor (ticks ++ map event_tick (ready order.old)) engine.new) }
     ensures counts { (ticks : List Tick) → StandsFor ticks engine.old → IfOk result (λ made. made ≡ counts_with counts None (kept_more engine.old.plan ticks (map event_tick (ready order.old)))) }
 {
@@ -216,7 +223,7 @@ fn count_ready(order: &mut Order, engine: &mut Engine, counts: Counts) -> Result
 
 // Ends the run, and counts what the end causes.
 fn count_end(run: EngineRun, counts: Counts) -> Result<Counts, NoMemory>
-    requires { run.engine.items ≡ [] }
+    requires { (lines : List (List ℕ)) × HasCounted run.header run.order run.engine run.handled counts lines }
     ensures { (lines : List (List ℕ)) → HasCounted run.header run.order run.engine run.handled counts lines
         → IfOk result (λ made. made ≡ whole_counts run.order.lag run.engine.plan (records_of run.header run.engine.plan.types lines)) }
 {
@@ -231,7 +238,8 @@ fn count_end(run: EngineRun, counts: Counts) -> Result<Counts, NoMemory>
     let counts = count_ready(&mut order, &mut engine, counts)?;
     let items = match engine.end() {
         Ok(items) => items,
-        Err(_) => return Err(NoMemory),
+        Err(EngineFault::NoMemory) => return Err(NoMemory),
+        Err(EngineFault::Spent) => unreachable!(),
     };
     let whole = with(counts, None, &items)?;
     Ok(whole)

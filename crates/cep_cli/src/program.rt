@@ -14,7 +14,7 @@ ghost use Rattle.cep_cli.specs.Meaning.{meaning_of};
 ghost use Rattle.cep_rows.specs.Lines.{raw_lines};
 ghost use Rattle.cep_session.specs.Meaning.{verdict};
 ghost use Rattle.pattern_file.specs.Usable.{IsUsable};
-ghost use Rattle.cep_cli.specs.Verdict.{IsVerdict, IfUnread, IfBegun, HasPrinted, show_verdict, run_verdict};
+ghost use Rattle.cep_cli.specs.Verdict.{IsVerdict, IsShownVerdict, IfUnread, IfBegun, HasPrinted, show_verdict};
 
 use crate::pattern::{Form, load_plan, load_text};
 use crate::run::EngineRun;
@@ -76,13 +76,19 @@ pub fn cep<F: Files, S: Source, K: Sink, N: Sink>(
     // Only a run takes anything of the input.
     ensures unread { (options : Options) (name : List ℕ) → command_of (map string_bytes words.now) ≡ Some (options, name) → options.mode ≢ Mode.Run → input.new ≡ input.old }
 
-    // Where nothing outside fails and there is memory, the answer is the verdict.
-    ensures complete { (options : Options) (name content all before : List ℕ) → command_of (map string_bytes words.now) ≡ Some (options, name) → F.contents files.old name ≡ Some content
+    // Where nothing outside fails and there is memory, the answer is the verdict. Only that of a run asks for the bytes of the input and of the output.
+    ensures complete { (options : Options) (name content all before : List ℕ) → command_of (map string_bytes words.now) ≡ Some (options, name) → options.mode ≡ Mode.Run
+        → F.contents files.old name ≡ Some content
         → S.left input.old ≡ Some all → K.taken output.old ≡ Some before
         → (Rose (F.faults files.old name) (F.faults files.new name) → ⊥)
         → (Rose (S.faults input.old) (S.faults input.new) → ⊥) → (Rose (K.faults output.old) (K.faults output.new) → ⊥)
         → result ≢ Status.NoMemory
         → IsVerdict options content all result }
+    ensures complete_shown { (options : Options) (name content : List ℕ) → command_of (map string_bytes words.now) ≡ Some (options, name) → options.mode ≢ Mode.Run
+        → F.contents files.old name ≡ Some content
+        → (Rose (F.faults files.old name) (F.faults files.new name) → ⊥) → (Rose (K.faults output.old) (K.faults output.new) → ⊥)
+        → result ≢ Status.NoMemory
+        → IsShownVerdict options content result }
 
     // The notes take the line of the status, or a front of it where they fail.
     ensures noted { AppendsPart (N.taken notes.old) (N.taken notes.new) (fault_line result) }
@@ -131,12 +137,16 @@ fn under_file<F: Files, S: Source, K: Sink>(
     ensures loaded { (content : List ℕ) (plan : Plan) → options.mode ≡ Mode.Load → F.contents files.old name.now ≡ Some content → ArePlannedAs content (Ok plan)
         → HasPrinted result (K.taken output.old) (K.taken output.new) (load_summary options plan) }
     ensures unread { options.mode ≢ Mode.Run → input.new ≡ input.old }
-    ensures complete { (content all before : List ℕ) → F.contents files.old name.now ≡ Some content
+    ensures complete { (content all before : List ℕ) → options.mode ≡ Mode.Run → F.contents files.old name.now ≡ Some content
         → S.left input.old ≡ Some all → K.taken output.old ≡ Some before
         → (Rose (F.faults files.old name.now) (F.faults files.new name.now) → ⊥)
         → (Rose (S.faults input.old) (S.faults input.new) → ⊥) → (Rose (K.faults output.old) (K.faults output.new) → ⊥)
         → result ≢ Status.NoMemory
         → IsVerdict options content all result }
+    ensures complete_shown { (content : List ℕ) → options.mode ≢ Mode.Run → F.contents files.old name.now ≡ Some content
+        → (Rose (F.faults files.old name.now) (F.faults files.new name.now) → ⊥) → (Rose (K.faults output.old) (K.faults output.new) → ⊥)
+        → result ≢ Status.NoMemory
+        → IsShownVerdict options content result }
     ensures later_files { (other : List ℕ) → F.faults files.old other ≤ F.faults files.new other }
     ensures later_input { S.faults input.old ≤ S.faults input.new }
     ensures later_output { K.faults output.old ≤ K.faults output.new }
@@ -175,7 +185,7 @@ fn run_file<F: Files, S: Source, K: Sink>(
         → (Rose (F.faults files.old name.now) (F.faults files.new name.now) → ⊥)
         → (Rose (S.faults input.old) (S.faults input.new) → ⊥) → (Rose (K.faults output.old) (K.faults output.new) → ⊥)
         → result ≢ Status.NoMemory
-        → (answer : Result Plan Fault) × ArePlannedAs content answer × (result ≡ run_verdict options answer all) }
+        → IsVerdict options content all result }
     ensures later_files { (other : List ℕ) → F.faults files.old other ≤ F.faults files.new other }
     ensures later_input { S.faults input.old ≤ S.faults input.new }
     ensures later_output { K.faults output.old ≤ K.faults output.new }

@@ -16,21 +16,18 @@ use run_step::RunSet;
 use std::alloc::Global;
 use std::marker::Model;
 use std::mem;
+use thiserror::Error;
 use time_limit::Limits;
 
 /// Why an engine gives no answer.
-#[derive(Clone, Copy, Debug, PartialEq, Eq)]
+#[derive(Clone, Copy, Debug, PartialEq, Eq, Error)]
 pub enum EngineFault {
     /// Memory was wanted, and the engine is spent.
+    #[error("no memory")]
     NoMemory,
     /// An earlier call wanted memory.
+    #[error("an earlier call wanted memory")]
     Spent,
-}
-
-impl From<NoMemory> for EngineFault {
-    fn from(_fault: NoMemory) -> EngineFault {
-        EngineFault::NoMemory
-    }
 }
 
 /// Whether the pattern has no time limit, or one above 0.
@@ -247,8 +244,8 @@ impl Engine {
         if self.spent {
             return Err(EngineFault::Spent);
         }
-        match self.ended() {
-            Ok(items) => Ok(items),
+        match self.parted() {
+            Ok((_, items)) => Ok(items),
             Err(NoMemory) => Err(EngineFault::NoMemory),
         }
     }
@@ -286,23 +283,5 @@ impl Engine {
         append(&mut engine.items, made)?;
         let Engine { plan, items, .. } = engine;
         Ok((plan, items))
-    }
-
-    /// The items not yet handed out, and then those of the end.
-    fn ended(self) -> Result<ItemList, NoMemory>
-        requires fresh { self.spent ≡ false }
-        ensures { (ticks : List Tick) → StandsFor ticks self → IfOk result (λ items. items ≡ self.items ++ kept_at self.plan ticks (mark_tick End)) }
-    {
-        let mut engine = self;
-        engine.spent = true;
-        let made = take_mark(
-            &mut engine.runs,
-            &mut engine.limits,
-            &engine.plan,
-            Moment::End,
-            engine.alloc,
-        )?;
-        append(&mut engine.items, made)?;
-        Ok(engine.items())
     }
 }

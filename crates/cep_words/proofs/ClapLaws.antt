@@ -1,5 +1,5 @@
 -- clap accepts the words that the rule accepts, with the same values.
-use Rattle.std.proofs.Common.{◌≡◌, ◌∙◌, Bool, true, false, cond, List, [], ◌∷◌, map, codes, Option, Some, None, is_some, option_map, Bor, refl, sym, ap, string_bytes, true≢false, inl, inr}
+use Rattle.std.proofs.Common.{◌≡◌, ◌∙◌, Bool, true, false, cond, List, [], ◌∷◌, map, codes, Option, Some, None, is_some, option_map, Bor, refl, sym, ap, string_bytes, true≢false}
 use Rattle.std.specs.Prelude.{String, ◌≢◌, option_and_then, slice_get}
 use Rattle.std.specs.Option.{option_map_or}
 use Rattle.std.specs.Str.{bytes_eq}
@@ -17,7 +17,7 @@ use Rattle.cep_words.proofs.ClapDash.{same_command}
 use Rattle.cep_words.proofs.ClapLost.{AreTexts}
 use Rattle.cep_words.proofs.ClapRows.{first_seen, lookup, marked}
 use Rattle.cep_words.proofs.ClapRule.{said_with}
-use Rattle.cep_words.proofs.ClapRun.{Found, fault_is, judged}
+use Rattle.cep_words.proofs.ClapRun.{Found, accepts, fault_is, judged, refuses}
 use Rattle.cep_words.proofs.ClapSteps.{fails}
 
 are_texts : {Z : Type 0} (words : List (String Z)) → AreTexts (map string_bytes words)
@@ -64,10 +64,10 @@ pub accepted : {Z : Type 0} (words : List (String Z)) → fault_of cep_app (map 
 accepted words none =
     let texts = map string_bytes words in
     elim (judged texts (are_texts words)) [
-      | inl h ↦
-          let bad : false ≡ true = sym (ap fails none) ∙ ap fails (fault_is texts) ∙ h.0 in
+      | refuses fault nothing ↦
+          let bad : false ≡ true = sym (ap fails none) ∙ ap fails (fault_is texts) ∙ fault in
           absurd (true≢false (sym bad))
-      | inr h ↦ same_command texts nothing_said ∙ found_command (matches_of cep_app texts) (said_with texts nothing_said) h.1
+      | accepts fine found ↦ same_command texts nothing_said ∙ found_command (matches_of cep_app texts) (said_with texts nothing_said) found
     ]
 
 -- where clap finds a fault, the rule refuses
@@ -75,8 +75,8 @@ pub refused : {Z : Type 0} (words : List (String Z)) → fault_of cep_app (map s
 refused words some =
     let texts = map string_bytes words in
     elim (judged texts (are_texts words)) [
-      | inl h ↦ same_command texts nothing_said ∙ h.1
-      | inr h ↦ absurd (some (fault_is texts ∙ h.0))
+      | refuses fault nothing ↦ same_command texts nothing_said ∙ nothing
+      | accepts fine found ↦ absurd (some (fault_is texts ∙ fine))
     ]
 
 abbrev pub named : Options × Bor Text → Options × Text

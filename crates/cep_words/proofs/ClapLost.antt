@@ -1,9 +1,10 @@
 -- A walk that can't end well any more.
 use Rattle.std.proofs.Common.{◌≡◌, ◌∙◌, ℕ, Bool, true, false, cond, List, [], ◌∷◌, codes, Option, Some, None, refl, ap}
+use Rattle.std.proofs.Math.Bool.{and-false}
 use Rattle.std.specs.Prelude.{◌&&◌, ◌==◌, option_and_then, ⊤}
 use Rattle.std.specs.Option.{option_map_or}
 use Rattle.std.specs.Str.{IsUtf8, bytes_eq}
-use Rattle.clap.specs.Kinds.{Kinds, or_else}
+use Rattle.clap.specs.Kinds.{or_else}
 use Rattle.clap.specs.Lexer.{long_of, long_of_rest, short_of}
 use Rattle.clap.specs.Walk.{Text, Row, Held, Waiting, arg_by_long, idle, option, value, is_pending, trailing, walked, word_met}
 use Rattle.clap.specs.Faults.{bundle_fault, flag_word_fault, positional_fault, step_fault, stray_fault, turn_fault, walk_fault, word_fault}
@@ -15,18 +16,13 @@ abbrev pub AreTexts : List Text → Type 0
 AreTexts [] = ⊤
 AreTexts (word ∷ words) = IsUtf8 word × AreTexts words
 
--- a positional is used after what is pending
-pub settles_first : (b : Bool) (kinds : Kinds) → cond (b && false) [] kinds ≡ kinds
-settles_first true kinds = refl
-settles_first false kinds = refl
-
 stray : (k : ℕ) (rows : List Row) (p : Option (Text × List Text)) → fails (settle rows p) ≡ true → fails (step_fault top k (held rows p) value) ≡ true
 stray k rows p e = go (1 == k) (2 == k)
   where
     go : (a b : Bool) → fails (option_map_or (λ r. positional_fault rules false r (held rows p))
         (cond a (Some (position 1 (codes "mode"))) (cond b (Some (position 2 (codes "file"))) None)) (stray_fault top)) ≡ true
-    go true b = ap fails (settles_first (is_pending (position 1 (codes "mode")) p) (settle rows p)) ∙ e
-    go false true = ap fails (settles_first (is_pending (position 2 (codes "file")) p) (settle rows p)) ∙ e
+    go true b = ap (λ again. fails (cond again [] (settle rows p))) (and-false (is_pending (position 1 (codes "mode")) p)) ∙ e
+    go false true = ap (λ again. fails (cond again [] (settle rows p))) (and-false (is_pending (position 2 (codes "file")) p)) ∙ e
     go false false = refl
 
 pub lost_over : (words : List Text) (rows : List Row) (p : Option (Text × List Text)) (waiting : Waiting) (k : ℕ)

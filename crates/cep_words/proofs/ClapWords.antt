@@ -1,6 +1,6 @@
 -- The forms of a word, to clap and to the rule.
 use Rattle.std.proofs.Common.{◌≡◌, ◌∙◌, ℕ, Bool, true, false, cond, List, [], ◌∷◌, length, codes, Some, None, refl, sym, ap, subst, eqb-true, arith}
-use Rattle.std.specs.Prelude.{◌==◌, ◌&&◌, ◌≢◌, option_and_then}
+use Rattle.std.specs.Prelude.{◌==◌, ◌&&◌, option_and_then}
 use Rattle.std.specs.Char.{encode_utf8}
 use Rattle.std.specs.Str.{IsUtf8, bytes_eq, chars, encode_utf8_all}
 use Rattle.std.proofs.lemmas.Slice.Eq.{bytes_eq-Decides}
@@ -62,30 +62,28 @@ has_character c xs valid = go (chars (c ∷ xs)) refl
         let lengths : 1 ≡ length (45 ∷ c ∷ xs) = ap length bad in
         absurd (omega (arith, lengths))
 
+-- neither is the other, as clap asks and as the rule asks
+abbrev pub Differ : Text → Text → Type 0
+Differ name known = (bytes_eq name known ≡ false) × (bytes_eq known name ≡ false)
+
 -- a name is one of the five, or none of them
 pub record IsOther (name : Text) : Type 0 where
-  pub lag : name ≢ codes "lag"
-  pub rows : name ≢ codes "rows"
-  pub header : name ≢ codes "header"
-  pub seed : name ≢ codes "seed"
-  pub count : name ≢ codes "count"
+  pub lag : Differ name (codes "lag")
+  pub rows : Differ name (codes "rows")
+  pub header : Differ name (codes "header")
+  pub seed : Differ name (codes "seed")
+  pub count : Differ name (codes "count")
 
-named : (P : Text → Type 0) (known name : Text) → P known → ((name ≢ known) → P name) → P name
-named P known name here other = go (bytes_eq name known) refl
+named : (P : Text → Type 0) (known name : Text) → P known → (Differ name known → P name) → P name
+named P known name here other = go (bytes_eq name known) (bytes_eq known name) refl refl
   where
-    go : (t : Bool) → bytes_eq name known ≡ t → P name
-    go true e = subst P (sym ((bytes_eq-Decides name known).0 e)) here
-    go false e = other (λ same. let bad : false ≡ true = sym e ∙ (bytes_eq-Decides name known).1 same in cc)
+    go : (t u : Bool) → bytes_eq name known ≡ t → bytes_eq known name ≡ u → P name
+    go true u e f = subst P (sym ((bytes_eq-Decides name known).0 e)) here
+    go false true e f = subst P ((bytes_eq-Decides known name).0 f) here
+    go false false e f = other (e, f)
 
 pub by_name : (P : Text → Type 0) → P (codes "lag") → P (codes "rows") → P (codes "header") → P (codes "seed") → P (codes "count") → ((name : Text) → IsOther name → P name) → (name : Text) → P name
 by_name P lag rows header seed count other name =
     named P (codes "lag") name lag (λ a. named P (codes "rows") name rows (λ b. named P (codes "header") name header (λ c.
     named P (codes "seed") name seed (λ d. named P (codes "count") name count (λ e.
     other name (record { lag = a; rows = b; header = c; seed = d; count = e }))))))
-
-pub differs : (name known : Text) → name ≢ known → bytes_eq name known ≡ false
-differs name known apart = go (bytes_eq name known) refl
-  where
-    go : (t : Bool) → bytes_eq name known ≡ t → t ≡ false
-    go true e = absurd (apart ((bytes_eq-Decides name known).0 e))
-    go false e = refl

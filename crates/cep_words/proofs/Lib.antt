@@ -5,6 +5,7 @@ mod ClapWords
 mod ClapSteps
 mod ClapLost
 mod ClapRule
+mod ClapEnd
 mod ClapRun
 mod ClapDash
 mod ClapLaws

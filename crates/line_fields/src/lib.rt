@@ -1,15 +1,17 @@
-//! The fields of a line as `csv` reads them, and the text of a row as it writes them, at the cost of a split and a join where no quote is needed.
+//! The fields of a line as `csv` reads them, at the cost of a split, and which fields it writes in quotes.
+//! `csv` itself reads only a line that is empty, may begin with a byte order mark, ends a record outside quotes, or has a quote that is not one of the two around a field.
 #![tactic(auto)]
 
 mod piece;
+mod quoted;
+mod quotes;
 mod reading;
 mod record;
-mod row;
 mod split;
 
+pub use quotes::needs_quotes;
 pub use reading::{Fields, read_fields};
 pub use record::record_by_csv;
-pub use row::{needs_quotes, row_by_csv, write_row};
 
 #[cfg(test)]
 mod tests;

@@ -1,5 +1,5 @@
 ghost use Rattle.std.specs.Prelude.{◌≡◌, ◌<◌, ◌^◌, length, option_map, slice_get};
-ghost use Rattle.line_fields.specs.Pieces.{Within, pieces, start_at};
+ghost use Rattle.line_fields.specs.Pieces.{Within, unquoted, pieces, start_at};
 
 use smallvec::SmallVec;
 
@@ -29,4 +29,14 @@ pub(crate) fn piece_at<'line>(
     let _size = line.len();
     let start = start_of(ends, place);
     Some(&line[start..ends[place]])
+}
+
+// A piece without the quotes that it stands in.
+pub(crate) fn unquoted(piece: &[u8]) -> &[u8]
+    ensures { result.now ≡ unquoted piece.now }
+{
+    if piece.len() > 1 && piece[0] == b'"' {
+        return &piece[1..piece.len() - 1];
+    }
+    piece
 }

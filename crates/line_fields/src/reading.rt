@@ -1,9 +1,10 @@
-ghost use Rattle.std.specs.Prelude.{◌≡◌, ◌≢◌, [], IfOk, IsTrue, IsUtf8, length, option_map, slice_get};
-ghost use Rattle.csv.specs.Reading.{strip_bom};
+ghost use Rattle.std.specs.Prelude.{◌≡◌, [], IfOk, IsTrue, IsUtf8, length, option_map, slice_get};
 ghost use Rattle.csv.specs.Records.{AllText};
-ghost use Rattle.line_fields.specs.Line.{fields_of_line};
+ghost use Rattle.line_fields.specs.Held.{PlacesFit, fields_held};
+ghost use Rattle.line_fields.specs.Line.{fields_from_field, fields_of_line};
 
-use crate::piece::{Ends, piece_at};
+use crate::piece::{Ends, piece_at, unquoted};
+use crate::quoted::split_quoted;
 use crate::record::record_by_csv;
 use crate::split::split_at_commas;
 use cep_event::NoMemory;
@@ -16,7 +17,10 @@ use std::str;
 // Where the bytes of the fields stand.
 #[derive(Drop)]
 enum Held<'line> {
+    // The line, where each piece is its field.
     Line(&'line [u8]),
+    // The line, where some pieces are fields in quotes.
+    Quoted(&'line [u8]),
     Record(ByteRecord),
 }
 
@@ -43,7 +47,7 @@ impl<'line> Fields<'line> {
         ensures { result ≡ length self.now }
     {
         match &self.held {
-            Held::Line(_) => self.ends.as_slice().len(),
+            Held::Line(_) | Held::Quoted(_) => self.ends.as_slice().len(),
             Held::Record(row) => row.len(),
         }
     }
@@ -53,6 +57,7 @@ impl<'line> Fields<'line> {
     {
         match &self.held {
             Held::Line(line) => piece_at(line, self.ends.as_slice(), place),
+            Held::Quoted(line) => Some(unquoted(piece_at(line, self.ends.as_slice(), place)?)),
             Held::Record(row) => row.get(place),
         }
     }
@@ -67,12 +72,37 @@ impl<'line> Fields<'line> {
     }
 }
 
-// Whether a line holds a byte and does not begin as a byte order mark does.
-fn starts_plain(line: &[u8]) -> bool
-    ensures some { IsTrue result → line.now ≢ [] }
-    ensures mark { IsTrue result → strip_bom line.now ≡ line.now }
+// Whether a line begins with a field: with a byte that neither begins a byte order mark nor ends a record.
+fn starts_field(line: &[u8]) -> bool
+    ensures { IsTrue result → fields_of_line line.now ≡ fields_from_field line.now }
 {
-    !line.is_empty() && line[0] != 0xEF
+    match line.first() {
+        None | Some(0xEF | b'\r' | b'\n') => false,
+        Some(_) => true,
+    }
+}
+
+// Fills in where the pieces of a line end, and says where the bytes of its fields stand.
+fn find_fields<'line>(
+    alloc: Global,
+    ends: &mut Ends,
+    line: &'line [u8],
+) -> Result<Held<'line>, NoMemory>
+    requires { ends.old.items ≡ [] }
+    ensures fields { IfOk result (λ held. fields_held held ends.new.items ≡ fields_of_line line.now) }
+    ensures fit { IfOk result (λ held. PlacesFit held ends.new.items) }
+{
+    if starts_field(line) {
+        if split_at_commas(ends, line)? {
+            return Ok(Held::Line(line));
+        }
+        ends.clear();
+        if split_quoted(ends, line)? {
+            return Ok(Held::Quoted(line));
+        }
+    }
+    let row = record_by_csv(alloc, line)?;
+    Ok(Held::Record(row))
 }
 
 /// The fields that `csv` reads from a line.
@@ -81,15 +111,6 @@ pub fn read_fields<'line>(alloc: Global, line: &'line [u8]) -> Result<Fields<'li
     ensures text { IfOk result (λ made. IsUtf8 line.now → AllText made) }
 {
     let mut ends = SmallVec::new(alloc);
-    if starts_plain(line) && split_at_commas(&mut ends, line)? {
-        return Ok(Fields {
-            held: Held::Line(line),
-            ends,
-        });
-    }
-    let row = record_by_csv(alloc, line)?;
-    Ok(Fields {
-        held: Held::Record(row),
-        ends,
-    })
+    let held = find_fields(alloc, &mut ends, line)?;
+    Ok(Fields { held, ends })
 }

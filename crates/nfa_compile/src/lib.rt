@@ -15,4 +15,5 @@ pub use compilable::is_compilable;
 pub use compiled::compile;
 pub use explained::explain;
 pub use nfa::{Nfa, Took, TookList, Wait, WaitList};
-pub use state::State;
+pub use state::{State, greatest_at};
+pub use waiting::contiguity_between;

@@ -16,7 +16,7 @@ use cep_plan::{Contiguity, Plan};
 use std::alloc::Global;
 
 /// The contiguity of a step from one stage to another.
-fn contiguity_between(plan: &Plan, last: u16, stage: u16) -> Contiguity
+pub fn contiguity_between(plan: &Plan, last: u16, stage: u16) -> Contiguity
     ensures { result ≡ contiguity_of plan.now last stage }
 {
     match plan.stages.get(stage as usize) {

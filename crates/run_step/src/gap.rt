@@ -1,9 +1,8 @@
 //! What an event does to a run: whether it may be taken, and whether the run goes on waiting without it.
 ghost use Rattle.std.specs.Prelude.{◌≡◌, ◌&&◌, ◌<◌, ◌^◌, length, true};
-ghost use Rattle.std.specs.Option.{option_map_or};
 ghost use Rattle.cep_plan.specs.Entry.{last_taken};
 ghost use Rattle.cep_plan.specs.Candidate.{is_candidate, keeps_next, comes_directly};
-ghost use Rattle.cep_plan.specs.Gap.{contiguity_of, contiguity_allows};
+ghost use Rattle.cep_plan.specs.Gap.{contiguity_allows};
 ghost use Rattle.cep_plan.specs.Limit.{limit_from, is_below_limit};
 ghost use Rattle.live_laws.specs.Survival.{survives, comes_in_time, takes};
 ghost use Rattle.run_step.specs.Fate.{spares_where, survives_where, breaks_no_next};
@@ -13,22 +12,7 @@ use crate::follow::last_of;
 use crate::runs::ListRun;
 use cep_event::Event;
 use cep_plan::{Contiguity, Plan, Taken, TakenList};
-
-/// The contiguity of a step from one stage to another.
-pub fn contiguity_between(plan: &Plan, before: u16, stage: u16) -> Contiguity
-    ensures { result ≡ contiguity_of plan.now before stage }
-{
-    match plan.stages.get(stage as usize) {
-        None => Contiguity::Any,
-        Some(declared) => {
-            if before == stage {
-                declared.inner
-            } else {
-                declared.first
-            }
-        }
-    }
-}
+use nfa_compile::contiguity_between;
 
 /// Whether contiguity allows an event in a gap, by whether it is a candidate.
 pub fn may_pass(contiguity: Contiguity, candidate: bool) -> bool

@@ -3,12 +3,18 @@ use Rattle.std.specs.Prelude.{Ok}
 use Rattle.cep_plan.specs.EventTime.{arrivals_of}
 use Rattle.cep_cli.specs.Records.{record_in, records_of}
 use Rattle.cep_cli.proofs.RowLaws.{comes_behind}
-use Rattle.cep_cli.proofs.BegunLaws.{lag_of}
+use Rattle.cep_cli.proofs.BegunLaws.{lag_of, numbered}
 use Rattle.cep_cli.proofs.LoadLaws.{counted-line}
 use Rattle.cep_cli.proofs.load.count_line.Goals as goal
 
-pub count_record-requires : goal.count_record-requires
-count_record-requires c =
+pub read_next-requires-clause-numbered : goal.read_next-requires-clause-numbered
+read_next-requires-clause-numbered c = numbered c.args.run.now.engine.plan c.requires.ready.1.run.usable
+
+pub count_record-requires-clause-room : goal.count_record-requires-clause-room
+count_record-requires-clause-room c = let run = c.requires.ready.1.run in omega (arith, run.within, run.counted, c.requires.ready.2)
+
+pub count_record-requires-clause-rows : goal.count_record-requires-clause-rows
+count_record-requires-clause-rows c =
     let lines = c.requires.ready.0 in
     let run = c.requires.ready.1.run in
     let s = c.args.run.now in
@@ -24,7 +30,7 @@ returns-clause-counted c = λ lines h.
     let few : length lines < 2 ^ 32 - 1 = omega (arith, c.requires.ready.2, c.requires.ready.1.run.counted, h.run.counted) in
     let e = c.in_ok-made.ensures in
     counted-line lines c.args.line.now c.in_ok-next.next s.header c.count_record.new.run.header s.order c.count_record.new.run.order s.engine c.count_record.new.run.engine s.handled c.args.counts c.in_ok-made.made h e.header few
-    c.in_ok-next.ensures e.plan (e.counts lag records h.run.ordered h.run.ticked h.run.handed) (e.order lag records h.run.ordered h.run.ticked) (e.engine lag records h.run.ordered h.run.ticked) e.items
+    c.in_ok-next.ensures e.plan (e.counts lag records h.run.ordered h.run.ticked h.run.handed) (e.order lag records h.run.ordered h.run.ticked) (e.engine lag records h.run.ordered h.run.ticked) e.items e.running e.grown
 
 pub returns-clause-lag : goal.returns-clause-lag
 returns-clause-lag c =

@@ -8,14 +8,14 @@ use Rattle.cep_words.specs.Words.{command_of}
 use Rattle.cep_words.specs.declared.options.Options.{Options}
 use Rattle.cep_cli.specs.Load.{load_summary}
 use Rattle.cep_cli.specs.Meaning.{meaning_of}
-use Rattle.cep_cli.specs.Verdict.{IsVerdict, HasPrinted}
+use Rattle.cep_cli.specs.Verdict.{IsVerdict, IsShownVerdict, HasPrinted}
 use Rattle.cep_cli.proofs.StopLaws.{nothing_yet}
 use Rattle.cep_cli.proofs.WordLaws.{same_options, same_name}
 use Rattle.cep_cli.proofs.program.cep.Goals as goal
 use Rattle.cep_cli.proofs.program.cep.Goals.{in-Ok, in-Err-Bad, in-Err-NoMemory}
 
 pub returns-clause-complete : goal.returns-clause-complete
-returns-clause-complete g c = λ options name content all before named told left taken no_file no_read no_write memory.
+returns-clause-complete g c = λ options name content all before named run told left taken no_file no_read no_write memory.
     elim c.match-command.branch [
       | in-Ok w ↦
           let asked = w.in-Ok.ensures.named in
@@ -23,7 +23,7 @@ returns-clause-complete g c = λ options name content all before named told left
           let same : w.in-Ok.name.now ≡ name = same_name (command_of (map string_bytes c.args.words.now)) _ _ _ _ asked named in
           let file_faults = g.F.Files.faults c.args.files.now in
           let u = w.under_file-status in
-          let answered = u.ensures.complete content all before
+          let answered = u.ensures.complete content all before (ap (λ (o : Options). o.mode) own ∙ run)
           (ap (λ (n : List ℕ). g.F.Files.contents c.args.files.now n) same ∙ told) left taken
           (λ rose. no_file (subst (λ f. Rose (file_faults name) (g.F.Files.faults f name)) (sym w.files-is)
           (subst (λ (n : List ℕ). Rose (file_faults n) (g.F.Files.faults u.new.files n)) same rose)))
@@ -31,6 +31,26 @@ returns-clause-complete g c = λ options name content all before named told left
           (λ rose. no_write (subst (λ o. Rose (g.K.Sink.faults c.args.output.now) (g.K.Sink.faults o)) (sym w.output-is) rose))
           (λ is. memory (w.status-is ∙ is)) in
           subst (λ s. IsVerdict options content all s) (sym w.status-is) (subst (λ (o : Options). IsVerdict o content all u.result) own answered)
+      | in-Err-Bad w ↦ let none : command_of (map string_bytes c.args.words.now) ≡ None = search rules in cc (none, named)
+      | in-Err-NoMemory w ↦ absurd (memory w.status-is)
+    ]
+
+pub returns-clause-complete_shown : goal.returns-clause-complete_shown
+returns-clause-complete_shown g c = λ options name content named shown told no_file no_write memory.
+    elim c.match-command.branch [
+      | in-Ok w ↦
+          let asked = w.in-Ok.ensures.named in
+          let own : w.in-Ok.options ≡ options = same_options (command_of (map string_bytes c.args.words.now)) _ _ _ _ asked named in
+          let same : w.in-Ok.name.now ≡ name = same_name (command_of (map string_bytes c.args.words.now)) _ _ _ _ asked named in
+          let file_faults = g.F.Files.faults c.args.files.now in
+          let u = w.under_file-status in
+          let answered = u.ensures.complete_shown content (λ run. shown (ap (λ (o : Options). o.mode) (sym own) ∙ run))
+          (ap (λ (n : List ℕ). g.F.Files.contents c.args.files.now n) same ∙ told)
+          (λ rose. no_file (subst (λ f. Rose (file_faults name) (g.F.Files.faults f name)) (sym w.files-is)
+          (subst (λ (n : List ℕ). Rose (file_faults n) (g.F.Files.faults u.new.files n)) same rose)))
+          (λ rose. no_write (subst (λ o. Rose (g.K.Sink.faults c.args.output.now) (g.K.Sink.faults o)) (sym w.output-is) rose))
+          (λ is. memory (w.status-is ∙ is)) in
+          subst (λ s. IsShownVerdict options content s) (sym w.status-is) (subst (λ (o : Options). IsShownVerdict o content u.result) own answered)
       | in-Err-Bad w ↦ let none : command_of (map string_bytes c.args.words.now) ≡ None = search rules in cc (none, named)
       | in-Err-NoMemory w ↦ absurd (memory w.status-is)
     ]
