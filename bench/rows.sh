@@ -1,6 +1,6 @@
 #!/usr/bin/env bash
-# Times a run of two strict stages with conditions over a million rows, plain and with a quoted field each, beside a plain
-# program that only splits and parses the same rows. It wants the program at crates/cep/out/cep (see README.md), rustc and
+# Times a run of two strict stages with conditions over a million rows: plain, with a field in quotes each, and with a doubled
+# quote each, beside a plain program that only splits and parses the plain rows. It wants the program at crates/cep/out/cep (see README.md), rustc and
 # python3. usage: bench/rows.sh [ROWS]
 set -eu
 cd "$(dirname "$0")/.."
