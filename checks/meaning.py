@@ -215,8 +215,8 @@ def ticks_of(records, lag):
     return late, events, ticks, after
 
 
-def expected(pattern, records, lag):
-    late, events, ticks, after = ticks_of(records, lag)
+def rows_of(pattern, late, events, ticks, records, after):
+    """What the records print, in the order in which they come; `after` has for each how many ticks there are behind it."""
     kept, lines, told = Meaning(pattern, events).kept(ticks), [], 0
 
     def row(kind, entries):
@@ -227,13 +227,18 @@ def expected(pattern, records, lag):
                 fields.append(f"{stage.name}=" + " ".join(rows))
         return ",".join(fields)
 
-    for record, count in zip(records + [END], after + [len(ticks)]):
+    for record, count in zip(records, after):
         if isinstance(record, Event) and record.row in late:
             lines.append(f"late,{record.row}")
         while told < len(kept) and kept[told][0] < count:
             lines.append(row(*kept[told][1:]))
             told += 1
     return "".join(line + "\n" for line in lines)
+
+
+def expected(pattern, records, lag):
+    late, events, ticks, after = ticks_of(records, lag)
+    return rows_of(pattern, late, events, ticks, records + [END], after + [len(ticks)])
 
 
 # ---- random patterns and rows
@@ -259,17 +264,17 @@ def aggregate(how, stage, taken):
     return sum(values) if how == "sum" else (min if how == "min" else max)(values) if values else MISSING
 
 
-def condition(dice, has_value, stages):
+def condition(dice, has_value, stages, scale):
     """A condition on the event's field and on the stages named, given as (number, name, whether it may be asked for v)."""
     choices = []
     if has_value:
-        sign, bound = dice.choice(["<", ">", "==", "!="]), dice.randrange(5)
+        sign, bound = dice.choice(["<", ">", "==", "!="]), scale * dice.randrange(5)
         choices.append(Condition(f"v {sign} {bound}", lambda e, taken, s=sign, b=bound: compared(s, value_of(e), b)))
     for number, name, asked in stages:
         most = dice.randrange(1, 3)
         choices.append(Condition(f'count("{name}") < {most}', lambda e, taken, n=number, m=most: aggregate("count", n, taken) < m))
         if asked:
-            how, sign, bound = dice.choice(["first", "last", "sum", "min", "max"]), dice.choice(["<", ">", "=="]), dice.randrange(6)
+            how, sign, bound = dice.choice(["first", "last", "sum", "min", "max"]), dice.choice(["<", ">", "=="]), scale * dice.randrange(6)
             text = f'{how}("{name}").v' if how in ("first", "last") else f'{how}("{name}".v)'
             choices.append(Condition(f"{text} {sign} {bound}", lambda e, taken, h=how, n=number, s=sign, b=bound: compared(s, aggregate(h, n, taken), b)))
             if has_value:
@@ -282,12 +287,13 @@ def condition(dice, has_value, stages):
     return chosen
 
 
-def conditions(dice, of, stages):
-    parts = [("where", condition(dice, of is None or TYPES[of], stages)) for _ in range(dice.choice([0, 0, 1, 1, 2]))]
+def conditions(dice, of, stages, scale):
+    parts = [("where", condition(dice, of is None or TYPES[of], stages, scale)) for _ in range(dice.choice([0, 0, 1, 1, 2]))]
     return [(join if place == 0 else dice.choice(["where", "or"]), part) for place, (join, part) in enumerate(parts)]
 
 
-def random_pattern(dice):
+def random_pattern(dice, scale=1):
+    """A pattern and its text. The values of events are asked for numbers from 0 to 4 or 5, times the scale."""
     pattern, text = Pattern(), ""
     for number in range(dice.choice([1, 2, 2, 3, 3, 4])):
         stage = Stage(f"s{number}")
@@ -298,14 +304,14 @@ def random_pattern(dice):
                 negation = Negation(f"n{number}{place}", number - 1, dice.random() < 0.5)
                 negation.of = dice.choice([None, "A", "B", "C", "D"])
                 named = [(n, s.name, s.of is None or TYPES[s.of]) for n, s in enumerate(pattern.stages)]
-                negation.conditions = conditions(dice, negation.of, named)
+                negation.conditions = conditions(dice, negation.of, named, scale)
                 pattern.negations.append(negation)
                 text += f'.{"notNext" if negation.next_only else "notFollowedBy"}("{negation.name}")' + modifiers(negation)
             stage.first = dice.choice([STRICT, RELAXED, RELAXED, ANY])
         stage.of = dice.choice([None, "A", "A", "B", "B", "C", "D"])
         named = [(n, s.name, s.of is None or TYPES[s.of]) for n, s in enumerate(pattern.stages + [stage])]
-        stage.conditions = conditions(dice, stage.of, named)
-        quantity(dice, stage, named)
+        stage.conditions = conditions(dice, stage.of, named, scale)
+        quantity(dice, stage, named, scale)
         pattern.stages.append(stage)
         text += f'.{OPENINGS[stage.first] if number else "begin"}("{stage.name}")' + modifiers(stage) + stage.modifiers
     if dice.random() < 0.4:
@@ -328,7 +334,7 @@ def modifiers(stage):
     return of + "".join(f".{join}({part.text})" for join, part in stage.conditions)
 
 
-def quantity(dice, stage, named):
+def quantity(dice, stage, named, scale):
     how = dice.choice(["one", "one", "one", "times", "range", "oneOrMore", "timesOrMore"])
     least = dice.randrange(1, 4)
     if how == "times":
@@ -347,7 +353,7 @@ def quantity(dice, stage, named):
         stage.inner = dice.choice([STRICT, RELAXED, RELAXED, ANY])
         stage.modifiers += {STRICT: ".consecutive()", RELAXED: "", ANY: ".allowCombinations()"}[stage.inner]
     if stage.most is None and dice.random() < 0.4:
-        stage.until = condition(dice, True, named)
+        stage.until = condition(dice, True, named, scale)
         stage.modifiers += f".until({stage.until.text})"
     if dice.random() < 0.25:
         stage.optional = True
@@ -416,11 +422,11 @@ def large_cases():
     )
 
 
-def printed(program, text, rows, words):
+def printed(program, text, rows, words, mode="run"):
     with tempfile.NamedTemporaryFile("w", suffix=".cep") as file:
         file.write(text)
         file.flush()
-        return subprocess.run([program, "run", file.name] + words, input=rows, capture_output=True, text=True)
+        return subprocess.run([program, mode, file.name] + words, input=rows, capture_output=True, text=True)
 
 
 def differs(name, done, text, rows, wanted):

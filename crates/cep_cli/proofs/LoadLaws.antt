@@ -1,6 +1,6 @@
--- What a load run has counted, one line after another.
-use Rattle.std.proofs.Common.{◌≡◌, refl, sym, ◌∙◌, ap, subst, ℕ, ◌+◌, ◌≤◌, ◌<◌, ◌-◌, ◌^◌, append-nil, append_assoc, map, Bool, not, ◌&&◌, List, [], ◌∷◌, ◌++◌, length, length-append, Option, None, arith}
-use Rattle.std.specs.Prelude.{Ok}
+-- What a load run has counted, one record after another.
+use Rattle.std.proofs.Common.{◌≡◌, refl, sym, ◌∙◌, ap, subst, ℕ, ◌+◌, ◌≤◌, ◌<◌, ◌-◌, ◌^◌, append-nil, append_assoc, map, Bool, false, not, ◌&&◌, List, [], ◌∷◌, ◌++◌, length, length-append, Option, None, arith}
+use Rattle.std.specs.Prelude.{Result, Ok}
 use Rattle.std.specs.List.{count_by, list_any}
 use Rattle.std.specs.Option.{option_to_list}
 use Rattle.std.specs.Str.{bytes_eq}
@@ -8,44 +8,70 @@ use Rattle.std.proofs.lemmas.List.Sums.{sum_by-append}
 use Rattle.cep_event.specs.declared.event.EventType.{EventType}
 use Rattle.cep_event.specs.declared.record.LineRecord.{LineRecord}
 use Rattle.cep_event.specs.declared.record.LineRecord.TheVariants.{Blank, Mark, Row}
-use Rattle.cep_event.specs.declared.record.Moment.TheVariants.{End}
 use Rattle.cep_load.specs.Named.{AreNamed, are_distinct}
 use Rattle.cep_plan.specs.declared.item.Item.{Item}
+use Rattle.cep_plan.specs.declared.item.Item.TheVariants.{Match, Timeout}
 use Rattle.cep_plan.specs.declared.plan.Plan.{Plan}
-use Rattle.cep_plan.specs.EventTime.{arrived, marked, released, arrivals_of, marks_behind, ticks_after, ticks_of_arrival, ticks_of, ticks_of_end, all_ticks}
+use Rattle.cep_plan.specs.EventTime.{arrived, marked, arrivals_of, marks_behind, ticks_after, ticks_of_arrival, ticks_of, ticks_of_end, all_ticks}
 use Rattle.cep_plan.specs.History.{history}
 use Rattle.cep_plan.specs.Skipping.{kept}
-use Rattle.cep_plan.specs.Tick.{Tick, event_tick, mark_tick}
-use Rattle.cep_engine.specs.Standing.{kept_at}
-use Rattle.cep_engine.specs.State.{State, StandsFor}
+use Rattle.cep_plan.specs.Tick.{Tick}
+use Rattle.event_pipeline.specs.declared.pipeline.Pipeline.{Pipeline}
+use Rattle.event_pipeline.specs.Handled.{HasHandled}
+use Rattle.event_pipeline.specs.Telling.{AreTold}
+use Rattle.event_pipeline.specs.Told.{Told, late_told, item_told, late_in, kept_items, added_items, told_of, told_at_end}
+use Rattle.event_pipeline.proofs.TickLaws.{added-more, kept_items-append}
 use Rattle.pattern_check.specs.Names.{are_distinct as differ}
 use Rattle.pattern_file.specs.Usable.{IsUsable}
-use Rattle.watermark_order.specs.Order.{OrderState, order_of, event_times, ready, HandsOut}
+use Rattle.watermark_order.specs.Order.{event_times}
 use Rattle.watermark_order.proofs.RecordLaws.{ticks_of-nothing, ticks_of-blank, ticks_of-mark, ticks_of-row}
 use Rattle.cep_cli.specs.declared.load.Counts.{Counts}
-use Rattle.cep_cli.specs.Counted.{HasCounted, counts_before_end, counts_with}
+use Rattle.cep_cli.specs.Counted.{HasCounted, counted_more, counted_all, counts_before_end}
 use Rattle.cep_cli.specs.Load.{counts_of, is_match, is_timeout, late_rows, whole_counts}
-use Rattle.cep_cli.specs.Meaning.{meaning_of, late_in, kept_items, added_items, caused_text}
 use Rattle.cep_cli.specs.Records.{record_in, records_of}
-use Rattle.cep_cli.specs.Run.{HasRun, IsRunning, taken_and_waiting}
-use Rattle.cep_cli.specs.Ticks.{HasTaken, kept_more}
-use Rattle.cep_cli.proofs.BegunLaws.{lag_of, records-push, gone-on, end-added}
-use Rattle.cep_cli.proofs.TickLaws.{added-more, kept_items-append, kept_more-append}
+use Rattle.cep_cli.proofs.BegunLaws.{records-push}
 
--- ---- counts of more
+-- ---- counts of what is told
+
+pub told-counted : {C : Type 0} (a b : C × Counts) (told : List Told) → AreTold (λ (s t : C × Counts) one. t.1 ≡ counted_more s.1 one) a b told → b.1 ≡ counted_all a.1 told
+told-counted a b [] is = ap (λ s. s.1) is
+told-counted a b (x ∷ xs) (now, first, more) = told-counted now b xs more ∙ ap (λ c. counted_all c xs) first
+
+counted_all-append : (c : Counts) (xs ys : List Told) → counted_all c (xs ++ ys) ≡ counted_all (counted_all c xs) ys
+counted_all-append c [] ys = refl
+counted_all-append c (x ∷ xs) ys = counted_all-append (counted_more c x) xs ys
 
 count-append : (p : Item → Bool) (xs ys : List Item) → count_by p (xs ++ ys) ≡ count_by p xs + count_by p ys
 count-append p xs ys = sum_by-append _ xs ys
 
-counted-more : (c d : Counts) (rows : List ℕ) (items more : List Item) (late : Option ℕ) → c ≡ counts_of rows items → d ≡ counts_with c late more
-    → d ≡ counts_of (rows ++ option_to_list late) (items ++ more)
-counted-more c d rows items more late is told =
-    told ∙ ap (λ k. counts_with k late more) is
-    ∙ (λ i. record {
-      late = sym (length-append rows (option_to_list late)) i;
-      matches = sym (count-append is_match items more) i;
-      timeouts = sym (count-append is_timeout items more) i;
-    })
+counted-late : (rows more : List ℕ) (items : List Item) → counted_all (counts_of rows items) (map late_told more) ≡ counts_of (rows ++ more) items
+counted-late rows [] items = ap (λ l. counts_of l items) (sym (append-nil rows))
+counted-late rows (row ∷ more) items =
+    ap (λ (n : ℕ). counted_all (record { late = n; matches = count_by is_match items; timeouts = count_by is_timeout items }) (map late_told more)) (sym (length-append rows (row ∷ [])))
+    ∙ counted-late (rows ++ row ∷ []) more items
+    ∙ ap (λ l. counts_of l items) (append_assoc rows (row ∷ []) more)
+
+as_many : (n : ℕ) → n ≡ n + 0
+as_many n = omega arith
+
+counted-items : (rows : List ℕ) (items more : List Item) → counted_all (counts_of rows items) (map item_told more) ≡ counts_of rows (items ++ more)
+counted-items rows items [] = ap (counts_of rows) (sym (append-nil items))
+counted-items rows items (item ∷ more) =
+    ap (λ c. counted_all c (map item_told more)) (one item)
+    ∙ counted-items rows (items ++ item ∷ []) more
+    ∙ ap (counts_of rows) (append_assoc items (item ∷ []) more)
+  where
+    one : (x : Item) → counted_more (counts_of rows items) (item_told x) ≡ counts_of rows (items ++ x ∷ [])
+    one (Match list) = λ i. record {
+      late = length rows;
+      matches = sym (count-append is_match items (Match list ∷ [])) i;
+      timeouts = (as_many (count_by is_timeout items) ∙ sym (count-append is_timeout items (Match list ∷ []))) i;
+    }
+    one (Timeout list) = λ i. record {
+      late = length rows;
+      matches = (as_many (count_by is_match items) ∙ sym (count-append is_match items (Timeout list ∷ []))) i;
+      timeouts = sym (count-append is_timeout items (Timeout list ∷ [])) i;
+    }
 
 late_rows-push : (lag : Option ℕ) (before records : List LineRecord) (next : LineRecord)
     → late_rows lag before (records ++ next ∷ []) ≡ late_rows lag before records ++ option_to_list (late_in lag (before ++ records) next)
@@ -73,100 +99,49 @@ kept-next plan lag records (Row event) =
     kept-behind plan (ticks_of lag records) (ticks_of lag (records ++ Row event ∷ []))
     (ticks_after (arrivals_of lag records ++ arrived event ∷ []) (marks_behind lag (event_times (arrivals_of lag records)) event.ts)) (ticks_of-row lag records event)
 
--- ---- one line more
+-- ---- one line more, and the end
 
-counted-on : (lag : Option ℕ) (plan : Plan) (records : List LineRecord) (next : LineRecord) (c d : Counts) → c ≡ counts_before_end lag plan records
-    → d ≡ counts_with c (late_in lag records next) (added_items plan (ticks_of lag records) (ticks_of lag (records ++ next ∷ [])))
-    → d ≡ counts_before_end lag plan (records ++ next ∷ [])
-counted-on lag plan records next c d is told =
-    counted-more c d (late_rows lag [] records) (kept_items plan (ticks_of lag records)) (added_items plan (ticks_of lag records) (ticks_of lag (records ++ next ∷ []))) (late_in lag records next) is told
+counts-next : (lag : Option ℕ) (plan : Plan) (records : List LineRecord) (next : LineRecord) → counted_all (counts_before_end lag plan records) (told_of lag plan records next) ≡ counts_before_end lag plan (records ++ next ∷ [])
+counts-next lag plan records next =
+    let rows = late_rows lag [] records in
+    let late = option_to_list (late_in lag records next) in
+    let items = kept_items plan (ticks_of lag records) in
+    let more = added_items plan (ticks_of lag records) (ticks_of lag (records ++ next ∷ [])) in
+    counted_all-append (counts_of rows items) (map late_told late) (map item_told more)
+    ∙ ap (λ c. counted_all c (map item_told more)) (counted-late rows late items)
+    ∙ counted-items (rows ++ late) items more
     ∙ (λ i. counts_of (sym (late_rows-push lag [] records next) i) (sym (kept-next plan lag records next) i))
 
-pub counted-line : (lines : List (List ℕ)) (line : List ℕ) (next : LineRecord) (header after : Bool) (o p : OrderState) (a b : State) (handled : ℕ) (c d : Counts)
-    → HasCounted header o a handled c lines → after ≡ header → length lines < 2 ^ 32 - 1 → record_in header a.plan.types (handled + 1) line ≡ Ok next → b.plan ≡ a.plan
-    → d ≡ counts_with c (late_in o.lag (records_of header a.plan.types lines) next)
-    (added_items a.plan (ticks_of o.lag (records_of header a.plan.types lines)) (ticks_of o.lag (records_of header a.plan.types lines ++ next ∷ [])))
-    → p ≡ order_of o.lag (arrivals_of o.lag (records_of header a.plan.types lines ++ next ∷ []))
-    → StandsFor (ticks_of o.lag (records_of header a.plan.types lines ++ next ∷ [])) b → b.items ≡ []
-    → IsRunning p b → taken_and_waiting p.waiting b ≤ taken_and_waiting o.waiting a + 1
-    → HasCounted after p b (handled + 1) d (lines ++ line ∷ [])
-counted-line lines line next header after o p a b handled c d h same_header few is same told ordered stands empty running grown =
-    let records = records_of header a.plan.types lines in
-    let gone = gone-on (meaning_of header o.lag a.plan) lines line (caused_text o.lag a.plan records next) next header after o p a b handled h.run same_header few is same refl ordered stands empty running grown in
-    let lag : p.lag ≡ o.lag = lag_of o.lag (arrivals_of o.lag (records ++ next ∷ [])) p ordered in
-    let read : record_in header a.plan.types (length lines + 1) line ≡ Ok next = ap (λ (k : ℕ). record_in header a.plan.types (k + 1) line) (sym h.run.counted) ∙ is in
-    let all : records_of header a.plan.types (lines ++ line ∷ []) ≡ records ++ next ∷ [] = records-push header a.plan.types lines line next read in
-    record {
-      run = subst (λ m. HasRun m after p b (handled + 1) (lines ++ line ∷ [])) gone.2.means gone.2;
-      counted =
-          counted-on o.lag a.plan records next c d h.counted told
-          ∙ (λ i. counts_before_end (sym lag i) (sym same i) (sym all i))
-          ∙ (λ i. counts_before_end p.lag b.plan (records_of (sym same_header i) (sym same i).types (lines ++ line ∷ [])));
-    }
+counts-whole : (lag : Option ℕ) (plan : Plan) (records : List LineRecord) → counted_all (counts_before_end lag plan records) (told_at_end lag plan records) ≡ whole_counts lag plan records
+counts-whole lag plan records =
+    counted-items (late_rows lag [] records) (kept_items plan (ticks_of lag records)) (added_items plan (ticks_of lag records) (all_ticks lag records))
+    ∙ ap (counts_of (late_rows lag [] records)) (sym (kept-behind plan (ticks_of lag records) (all_ticks lag records) (ticks_of_end lag records) refl))
 
--- ---- no line, and no more lines
+pub counted-line : (lag : Option ℕ) (plan : Plan) (p q : Pipeline) (c d : Counts) (lines : List (List ℕ)) (line : List ℕ) (next : LineRecord) → HasCounted lag plan p c lines
+    → record_in false plan.types (length lines + 1) line ≡ Ok next → HasHandled lag plan (records_of false plan.types lines ++ next ∷ []) q
+    → d ≡ counted_all c (told_of lag plan (records_of false plan.types lines) next) → HasCounted lag plan q d (lines ++ line ∷ [])
+counted-line lag plan p q c d lines line next h read passed told =
+    let records = records_of false plan.types lines in
+    let all = records-push false plan.types lines line next read in
+    record {
+      passed = subst (λ r. HasHandled lag plan r q) (sym all) passed;
+      counted = told ∙ ap (λ k. counted_all k (told_of lag plan records next)) h.counted ∙ counts-next lag plan records next ∙ ap (counts_before_end lag plan) (sym all);
+    }
 
 nothing-kept : (plan : Plan) → kept_items plan [] ≡ []
 unfolding kept history
 nothing-kept plan = refl
 
-pub counted-nothing : (m : _) (header : Bool) (o : OrderState) (a : State) (handled : ℕ) (c : Counts) → c ≡ counts_of [] [] → HasRun m header o a handled [] → HasCounted header o a handled c []
-counted-nothing m header o a handled c is run = record {
-  run = subst (λ n. HasRun n header o a handled []) run.means run;
-  counted = is ∙ ap (counts_of []) (sym (nothing-kept a.plan) ∙ ap (kept_items a.plan) (sym (ticks_of-nothing o.lag)));
+pub counted-nothing : (lag : Option ℕ) (plan : Plan) (p : Pipeline) (c : Counts) → c ≡ counts_of [] [] → HasHandled lag plan [] p → HasCounted lag plan p c []
+counted-nothing lag plan p c is passed = record {
+  passed = passed;
+  counted = is ∙ ap (counts_of []) (sym (nothing-kept plan) ∙ ap (kept_items plan) (sym (ticks_of-nothing lag)));
 }
 
--- counts of items that were counted in two parts
-pub counted-parts : (c : Counts) (xs ys : List Item) → counts_with (counts_with c None xs) None ys ≡ counts_with c None (xs ++ ys)
-counted-parts c xs ys = λ i. record {
-  late = no_more c.late i;
-  matches = (sums c.matches (count_by is_match xs) (count_by is_match ys) ∙ ap (λ n. c.matches + n) (sym (count-append is_match xs ys))) i;
-  timeouts = (sums c.timeouts (count_by is_timeout xs) (count_by is_timeout ys) ∙ ap (λ n. c.timeouts + n) (sym (count-append is_timeout xs ys))) i;
-} where
-  no_more : (n : ℕ) → n + 0 + 0 ≡ n + 0
-  no_more n = omega arith
-
-  sums : (n a b : ℕ) → n + a + b ≡ n + (a + b)
-  sums n a b = omega arith
-
-pub counted-none : (c : Counts) → c ≡ counts_with c None []
-counted-none c = λ i. record { late = same c.late i; matches = same c.matches i; timeouts = same c.timeouts i } where
-  same : (n : ℕ) → n ≡ n + 0
-  same n = omega arith
-
-pub counted-end : (lag : Option ℕ) (plan : Plan) (records : List LineRecord) (o after : OrderState) (c d e : Counts) (items : List Item)
-    → HandsOut o (released (arrivals_of lag records) End) after
-    → c ≡ counts_before_end lag plan records
-    → d ≡ counts_with c None (kept_more plan (ticks_of lag records) (map event_tick (ready o)))
-    → items ≡ kept_at plan (ticks_of lag records ++ map event_tick (ready o)) (mark_tick End)
-    → e ≡ counts_with d None items → e ≡ whole_counts lag plan records
-counted-end lag plan records o after c d e items hands so_far more are told =
-    let ticks = ticks_of lag records in
-    let events = map event_tick (ready o) in
-    let parts =
-    told
-    ∙ (λ i. counts_with (more i) None (are i))
-    ∙ counted-parts c (kept_more plan ticks events) (kept_at plan (ticks ++ events) (mark_tick End))
-    ∙ ap (counts_with c None) (end-added lag records o after plan hands) in
-    counted-more c e (late_rows lag [] records) (kept_items plan ticks) (added_items plan ticks (all_ticks lag records)) None so_far parts
-    ∙ (λ i. counts_of (append-nil (late_rows lag [] records) i) (sym (kept-behind plan ticks (all_ticks lag records) (ticks_of_end lag records) refl) i))
-
--- one event more is handed to the engine, and its items are counted and dropped
-pub counted-ready : (ticks events : List Tick) (tick : Tick) (first a b : State) (c d e : Counts) → a.plan ≡ first.plan → a.items ≡ []
-    → HasTaken (ticks ++ events) (tick ∷ []) a b
-    → d ≡ counts_with c None (kept_more first.plan ticks events) → e ≡ counts_with d None b.items
-    → e ≡ counts_with c None (kept_more first.plan ticks (events ++ tick ∷ []))
-counted-ready ticks events tick first a b c d e same empty taken so_far told =
-    let more = kept_more first.plan (ticks ++ events) (tick ∷ []) in
-    let items : b.items ≡ more = taken.items ∙ (λ i. empty i ++ kept_more (same i) (ticks ++ events) (tick ∷ [])) in
-    told
-    ∙ (λ i. counts_with (so_far i) None (items i))
-    ∙ counted-parts c (kept_more first.plan ticks events) more
-    ∙ ap (counts_with c None) (sym (kept_more-append first.plan ticks events (tick ∷ [])))
-
--- an engine whose items were handed out stands for the same ticks
-pub stands-drained : (ticks : List Tick) (a b : State) → b ≡ record a { items = [] } → StandsFor ticks a → StandsFor ticks b
-stands-drained ticks a b is h = subst (StandsFor ticks) (sym is) (record { parts = h.parts; last = h.last })
+pub counted-end : (lag : Option ℕ) (plan : Plan) (p : Pipeline) (c d : Counts) (lines : List (List ℕ)) → HasCounted lag plan p c lines
+    → d ≡ counted_all c (told_at_end lag plan (records_of false plan.types lines)) → d ≡ whole_counts lag plan (records_of false plan.types lines)
+counted-end lag plan p c d lines h told =
+    told ∙ ap (λ k. counted_all k (told_at_end lag plan (records_of false plan.types lines))) h.counted ∙ counts-whole lag plan (records_of false plan.types lines)
 
 -- ---- the types of a usable plan
 

@@ -13,7 +13,7 @@ use Rattle.cep_cli.specs.declared.pattern.PatternStop.{PatternStop}
 use Rattle.cep_cli.specs.declared.pattern.PatternStop.TheVariants as stop
 use Rattle.cep_cli.specs.Pattern.{Tells}
 use Rattle.cep_cli.specs.Stop.{IsToldBy}
-use Rattle.cep_cli.specs.Verdict.{HasPrinted}
+use Rattle.cep_cli.specs.Verdict.{HasPrinted, IfOfInput}
 
 module _ {T : Type 0} (P : Result T Fault → Type 0) (one : (a b : Result T Fault) → P a → P b → a ≡ b) where
   never_both : (v : T) (e : Fault) → P (Ok v) → P (Err e) → ⊥
@@ -72,3 +72,14 @@ ended-nothing m allowed stop.NoMemory s all before left taken is h read wrote = 
 ended-nothing m allowed stop.Failed s all before left taken is h read wrote = untouched m allowed s all before left taken read wrote (subst (λ t. Outcome m allowed t all [] []) (sym is) (refl, refl))
 ended-nothing m allowed (stop.Refused p c) s all before left taken is (inl h) read wrote = cc
 ended-nothing m allowed (stop.Refused p c) s all before left taken is (inr h) read wrote = cc
+
+-- no stop tells of the input
+pub stopped-unread : (why : PatternStop) (s : Status) → IsToldBy why s → IfOfInput s ⊥
+stopped-unread stop.NoMemory s is = subst (λ t. IfOfInput t ⊥) (sym is) tt
+stopped-unread stop.Failed s is = subst (λ t. IfOfInput t ⊥) (sym is) tt
+stopped-unread (stop.Refused p c) s is = subst (λ t. IfOfInput t ⊥) (sym is) tt
+
+-- nor does a text that was written, or a front of it
+pub shown-unread : (s : Status) → (s ≡ status.Done) ⊎ (s ≡ status.WriteFault) → IfOfInput s ⊥
+shown-unread s (inl is) = subst (λ t. IfOfInput t ⊥) (sym is) tt
+shown-unread s (inr is) = subst (λ t. IfOfInput t ⊥) (sym is) tt

@@ -11,7 +11,7 @@ use Rattle.cep_plan.specs.declared.plan.Plan.{Plan}
 use Rattle.cep_plan.specs.EventTime.{all_ticks}
 use Rattle.cep_words.specs.declared.options.Options.{Options}
 use Rattle.cep_cli.specs.declared.load.Counts.{Counts}
-use Rattle.cep_cli.specs.Meaning.{kept_items, late_in}
+use Rattle.event_pipeline.specs.Told.{kept_items, late_in}
 use Rattle.cep_cli.specs.Records.{records_of}
 
 -- the rows of the late events among records that come after others

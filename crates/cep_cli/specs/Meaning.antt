@@ -1,13 +1,9 @@
 -- What lines mean under a plan: which are refused, and the text that the others cause. Late events and items are those of the definitions of event time and of matches; that a line's late row comes before the items that it causes is this project's own.
-use Rattle.std.specs.Prelude.{ℕ, ◌+◌, Bool, List, [], ◌∷◌, ◌++◌, length, drop, if◌then◌else◌, Option, Some, None, Result, Ok, Err}
+use Rattle.std.specs.Prelude.{ℕ, ◌+◌, Bool, List, [], ◌∷◌, ◌++◌, length, Option, Some, None, Result, Ok, Err}
 use Rattle.cep_event.specs.declared.record.LineRecord.{LineRecord}
-use Rattle.cep_event.specs.declared.record.LineRecord.TheVariants.{Blank, Mark, Row}
-use Rattle.cep_plan.specs.declared.item.Item.{Item}
 use Rattle.cep_plan.specs.declared.plan.Plan.{Plan}
-use Rattle.cep_plan.specs.EventTime.{arrivals_of, is_late, ticks_of, all_ticks}
-use Rattle.cep_plan.specs.History.{history}
-use Rattle.cep_plan.specs.Skipping.{kept}
-use Rattle.cep_plan.specs.Tick.{Tick}
+use Rattle.cep_plan.specs.EventTime.{ticks_of, all_ticks}
+use Rattle.event_pipeline.specs.Told.{late_in, added_items}
 use Rattle.cep_rows.specs.declared.cause.RowCause.{RowCause}
 use Rattle.cep_rows.specs.declared.cause.RowCause.TheVariants.{LineTooLong}
 use Rattle.cep_session.specs.Meaning.{Meaning}
@@ -22,20 +18,6 @@ refusal_of (Err cause) = Some cause
 refusal_of (Ok r) = None
 
 -- ---- what lines cause
-
--- the items that ticks keep
-abbrev pub kept_items : Plan → List Tick → List Item
-kept_items plan ticks = kept plan.skip (history plan ticks)
-
--- the items that more ticks add to those that are kept
-abbrev pub added_items : Plan → List Tick → List Tick → List Item
-added_items plan before ticks = drop (length (kept_items plan before)) (kept_items plan ticks)
-
--- the row of a record that comes after others, where its event is late
-abbrev pub late_in : Option ℕ → List LineRecord → LineRecord → Option ℕ
-late_in lag before Blank = None
-late_in lag before (Mark time) = None
-late_in lag before (Row event) = if is_late (arrivals_of lag before) event then Some event.row else None
 
 -- the text that tells of it
 abbrev pub late_text : Option ℕ → List ℕ

@@ -55,6 +55,18 @@ IfUnread WriteFault P = Unit {0}
 abbrev pub IfBegun : Status → Type 0
 IfBegun status = IfUnread status ⊥
 
+-- a fact that holds of the statuses that tell of the input
+abbrev pub IfOfInput : Status → Type 0 → Type 0
+IfOfInput (BadRow row cause) P = P
+IfOfInput TooManyRows P = P
+IfOfInput ReadFault P = P
+IfOfInput Done P = Unit {0}
+IfOfInput NoMemory P = Unit {0}
+IfOfInput BadWords P = Unit {0}
+IfOfInput PatternFault P = Unit {0}
+IfOfInput (PatternRefused code place) P = Unit {0}
+IfOfInput WriteFault P = Unit {0}
+
 -- what the output took of a text, with the status with which its printing ended; no other status comes
 abbrev pub HasPrinted : Status → Option (List ℕ) → Option (List ℕ) → List ℕ → Type 0
 HasPrinted Done old new text = Appends old new text

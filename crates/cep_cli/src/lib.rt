@@ -5,9 +5,7 @@ mod load;
 mod pattern;
 mod program;
 mod run;
+mod written;
 
 pub use cep_session::{RowCause, Status, number, tell};
 pub use program::cep;
-
-#[cfg(test)]
-mod tests;

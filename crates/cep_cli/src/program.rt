@@ -14,7 +14,7 @@ ghost use Rattle.cep_cli.specs.Meaning.{meaning_of};
 ghost use Rattle.cep_rows.specs.Lines.{raw_lines};
 ghost use Rattle.cep_session.specs.Meaning.{verdict};
 ghost use Rattle.pattern_file.specs.Usable.{IsUsable};
-ghost use Rattle.cep_cli.specs.Verdict.{IsVerdict, IsShownVerdict, IfUnread, IfBegun, HasPrinted, show_verdict};
+ghost use Rattle.cep_cli.specs.Verdict.{IsVerdict, IsShownVerdict, IfUnread, IfBegun, IfOfInput, HasPrinted, show_verdict};
 
 use crate::pattern::{Form, load_plan, load_text};
 use crate::run::EngineRun;
@@ -49,8 +49,10 @@ pub fn cep<F: Files, S: Source, K: Sink, N: Sink>(
         → AreRefused options.mode content (record { place = place; code = code })
         → (result ≡ Status.PatternRefused code place) ⊎ ((result ≡ Status.PatternFault) ⊎ (result ≡ Status.NoMemory)) }
 
-    // Before the pattern is accepted the input and the output are as they were, their counts too.
+    // Before the pattern is accepted the input and the output are as they were, their counts too, and where it is to be refused with every status.
     ensures untouched { IfUnread result ((input.new ≡ input.old) × (output.new ≡ output.old)) }
+    ensures spared { (options : Options) (name content : List ℕ) (fault : Fault) → command_of (map string_bytes words.now) ≡ Some (options, name) → F.contents files.old name ≡ Some content
+        → AreRefused options.mode content fault → (input.new ≡ input.old) × (output.new ≡ output.old) }
 
     // No fault of the input or of the output comes by itself.
     ensures read { result ≡ Status.ReadFault → Rose (S.faults input.old) (S.faults input.new) }
@@ -73,8 +75,9 @@ pub fn cep<F: Files, S: Source, K: Sink, N: Sink>(
         → F.contents files.old name ≡ Some content → ArePlannedAs content (Ok plan)
         → HasPrinted result (K.taken output.old) (K.taken output.new) (load_summary options plan) }
 
-    // Only a run takes anything of the input.
+    // Only a run takes anything of the input, and ends with a status that tells of it.
     ensures unread { (options : Options) (name : List ℕ) → command_of (map string_bytes words.now) ≡ Some (options, name) → options.mode ≢ Mode.Run → input.new ≡ input.old }
+    ensures shown { (options : Options) (name : List ℕ) → command_of (map string_bytes words.now) ≡ Some (options, name) → options.mode ≢ Mode.Run → IfOfInput result ⊥ }
 
     // Where nothing outside fails and there is memory, the answer is the verdict. Only that of a run asks for the bytes of the input and of the output.
     ensures complete { (options : Options) (name content all before : List ℕ) → command_of (map string_bytes words.now) ≡ Some (options, name) → options.mode ≡ Mode.Run
@@ -125,6 +128,7 @@ fn under_file<F: Files, S: Source, K: Sink>(
     ensures refused_pattern { (content : List ℕ) (code place : ℕ) → F.contents files.old name.now ≡ Some content → AreRefused options.mode content (record { place = place; code = code })
         → (result ≡ Status.PatternRefused code place) ⊎ ((result ≡ Status.PatternFault) ⊎ (result ≡ Status.NoMemory)) }
     ensures untouched { IfUnread result ((input.new ≡ input.old) × (output.new ≡ output.old)) }
+    ensures spared { (content : List ℕ) (fault : Fault) → F.contents files.old name.now ≡ Some content → AreRefused options.mode content fault → (input.new ≡ input.old) × (output.new ≡ output.old) }
     ensures read { result ≡ Status.ReadFault → Rose (S.faults input.old) (S.faults input.new) }
     ensures write { result ≡ Status.WriteFault → Rose (K.faults output.old) (K.faults output.new) }
     ensures outcome { (content all before : List ℕ) (plan : Plan) → options.mode ≡ Mode.Run → F.contents files.old name.now ≡ Some content → ArePlannedAs content (Ok plan)
@@ -137,6 +141,7 @@ fn under_file<F: Files, S: Source, K: Sink>(
     ensures loaded { (content : List ℕ) (plan : Plan) → options.mode ≡ Mode.Load → F.contents files.old name.now ≡ Some content → ArePlannedAs content (Ok plan)
         → HasPrinted result (K.taken output.old) (K.taken output.new) (load_summary options plan) }
     ensures unread { options.mode ≢ Mode.Run → input.new ≡ input.old }
+    ensures shown { options.mode ≢ Mode.Run → IfOfInput result ⊥ }
     ensures complete { (content all before : List ℕ) → options.mode ≡ Mode.Run → F.contents files.old name.now ≡ Some content
         → S.left input.old ≡ Some all → K.taken output.old ≡ Some before
         → (Rose (F.faults files.old name.now) (F.faults files.new name.now) → ⊥)
@@ -175,6 +180,7 @@ fn run_file<F: Files, S: Source, K: Sink>(
     ensures refused_pattern { (content : List ℕ) (code place : ℕ) → F.contents files.old name.now ≡ Some content → ArePlannedAs content (Err (record { place = place; code = code }))
         → (result ≡ Status.PatternRefused code place) ⊎ ((result ≡ Status.PatternFault) ⊎ (result ≡ Status.NoMemory)) }
     ensures untouched { IfUnread result ((input.new ≡ input.old) × (output.new ≡ output.old)) }
+    ensures spared { (content : List ℕ) (fault : Fault) → F.contents files.old name.now ≡ Some content → ArePlannedAs content (Err fault) → (input.new ≡ input.old) × (output.new ≡ output.old) }
     ensures read { result ≡ Status.ReadFault → Rose (S.faults input.old) (S.faults input.new) }
     ensures write { result ≡ Status.WriteFault → Rose (K.faults output.old) (K.faults output.new) }
     ensures outcome { (content all before : List ℕ) (plan : Plan) → F.contents files.old name.now ≡ Some content → ArePlannedAs content (Ok plan)
@@ -233,12 +239,14 @@ fn show_file<F: Files, K: Sink>(
 ) -> Status
     ensures words { result ≢ Status.BadWords }
     ensures unread { result ≢ Status.ReadFault }
+    ensures shown { IfOfInput result ⊥ }
     ensures pattern_fault { result ≡ Status.PatternFault → Rose (F.faults files.old name.now) (F.faults files.new name.now) }
     ensures pattern_refused { (content : List ℕ) (code place : ℕ) → F.contents files.old name.now ≡ Some content
         → result ≡ Status.PatternRefused code place → AreShownAs form content (Err (record { place = place; code = code })) }
     ensures refused_pattern { (content : List ℕ) (code place : ℕ) → F.contents files.old name.now ≡ Some content → AreShownAs form content (Err (record { place = place; code = code }))
         → (result ≡ Status.PatternRefused code place) ⊎ ((result ≡ Status.PatternFault) ⊎ (result ≡ Status.NoMemory)) }
     ensures untouched { IfUnread result (output.new ≡ output.old) }
+    ensures spared { (content : List ℕ) (fault : Fault) → F.contents files.old name.now ≡ Some content → AreShownAs form content (Err fault) → output.new ≡ output.old }
     ensures write { result ≡ Status.WriteFault → Rose (K.faults output.old) (K.faults output.new) }
     ensures printed { (content text : List ℕ) → F.contents files.old name.now ≡ Some content → AreShownAs form content (Ok text)
         → HasPrinted result (K.taken output.old) (K.taken output.new) text }

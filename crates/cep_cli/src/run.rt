@@ -1,163 +1,25 @@
-ghost use Rattle.std.specs.Prelude.{◌≡◌, ◌≤◌, ◌<◌, ◌^◌, ◌-◌, ◌+◌, ◌++◌, ◌∷◌, [], List, ℕ, ℤ, false, length, map, IfOk, OnOk, Option, Some, None, if◌then◌else◌, All};
-ghost use Rattle.std.specs.List.{AllByRecursion as Each};
-ghost use Rattle.cep_event.specs.declared.event.Event.{Event};
-ghost use Rattle.cep_event.specs.declared.record.Moment.TheVariants.{At, End};
+ghost use Rattle.std.specs.Prelude.{◌≡◌, ◌≤◌, ◌<◌, ◌^◌, ◌-◌, [], List, ℕ, length, IfOk, OnOk, Option, Err};
 ghost use Rattle.cep_event.specs.declared.record.LineRecord.{LineRecord};
-ghost use Rattle.cep_event.specs.declared.record.LineRecord.TheVariants.{Blank, Mark, Row};
-ghost use Rattle.cep_plan.specs.EventTime.{Arrival, arrived, marked, is_late, marks_behind, released, arrivals_of, ticks_of};
-ghost use Rattle.cep_plan.specs.Tick.{Tick, event_tick, mark_tick};
-ghost use Rattle.cep_engine.specs.Standing.{kept_at};
-ghost use Rattle.cep_engine.specs.State.{StandsFor, IsNotBefore};
+ghost use Rattle.cep_outside.specs.Outside.{Rose};
+ghost use Rattle.cep_plan.specs.declared.plan.Plan.{Plan};
 ghost use Rattle.cep_records.specs.Causes.{Answers};
 ghost use Rattle.cep_records.specs.Numbered.{AreNumbered};
-ghost use Rattle.cep_select.specs.Output.{rows_of};
-ghost use Rattle.cep_select.specs.Pieces.{IsShort};
-ghost use Rattle.watermark_order.specs.Order.{order_of, ready, settled, event_times, with_event};
-ghost use Rattle.cep_cli.specs.Meaning.{late_text};
+ghost use Rattle.event_pipeline.specs.Handled.{HasHandled};
+ghost use Rattle.event_pipeline.specs.Running.{ComesBehind};
+ghost use Rattle.pattern_file.specs.Usable.{IsUsable};
+ghost use Rattle.cep_cli.specs.Meaning.{meaning_of, owed_text};
 ghost use Rattle.cep_cli.specs.Records.{record_in};
-ghost use Rattle.cep_cli.specs.Run.{CanTake, ComesBehind, HasGone, IsRunning, taken_and_waiting};
-ghost use Rattle.cep_cli.specs.Ticks.{HasTaken, HasMet};
+ghost use Rattle.cep_cli.specs.Run.{HasRun, IsCaused, IsWritten};
 
-use cep_engine::{Engine, EngineFault};
-use cep_event::{ByteList, Event, LineRecord, NoMemory};
+use crate::written::RowWriter;
+use cep_event::{LineRecord, NoMemory};
+use cep_outside::Sink;
 use cep_plan::Plan;
 use cep_records::{RowFault, record_of};
 use cep_rows::Line;
-use cep_select::{late_row, rows_of};
-use cep_session::{Handler, LineFault, RowCause};
+use cep_session::{EndFault, Handler, LineFault, RowCause};
+use event_pipeline::{Pipeline, TellFault};
 use std::alloc::Global;
-use watermark_order::{Arrived, Order};
-
-/// Hands an event to the engine.
-pub(crate) fn feed(engine: &mut Engine, event: Event) -> Result<(), NoMemory>
-    requires fresh { engine.old.spent ≡ false }
-    requires room { engine.old.runs.position < 2 ^ 32 - 1 }
-    requires time { IsNotBefore engine.old.last event.ts }
-    ensures plan { engine.new.plan ≡ engine.old.plan }
-    ensures fresh { OnOk result (engine.new.spent ≡ false) }
-    ensures last { OnOk result (engine.new.last ≡ Some event.ts) }
-    ensures position { OnOk result (engine.new.runs.position ≡ engine.old.runs.position + 1) }
-    ensures taken { (ticks : List Tick) → StandsFor ticks engine.old → IfOk result (λ done. HasTaken ticks (event_tick event ∷ []) engine.old engine.new) }
-{
-    match engine.event(event) {
-        Ok(()) => Ok(()),
-        Err(EngineFault::NoMemory) => Err(NoMemory),
-        Err(EngineFault::Spent) => unreachable!(),
-    }
-}
-
-// Hands a mark to the engine.
-fn close(engine: &mut Engine, time: i64) -> Result<(), NoMemory>
-    requires fresh { engine.old.spent ≡ false }
-    requires time { IsNotBefore engine.old.last time }
-    ensures plan { engine.new.plan ≡ engine.old.plan }
-    ensures fresh { OnOk result (engine.new.spent ≡ false) }
-    ensures last { OnOk result (engine.new.last ≡ Some time) }
-    ensures position { OnOk result (engine.new.runs.position ≡ engine.old.runs.position) }
-    ensures taken { (ticks : List Tick) → StandsFor ticks engine.old → IfOk result (λ done. HasTaken ticks (mark_tick (At time) ∷ []) engine.old engine.new) }
-{
-    match engine.mark(time) {
-        Ok(()) => Ok(()),
-        Err(EngineFault::NoMemory) => Err(NoMemory),
-        Err(EngineFault::Spent) => unreachable!(),
-    }
-}
-
-// Hands all events that are ready to the engine.
-fn release(order: &mut Order, engine: &mut Engine) -> Result<(), NoMemory>
-    requires takes { CanTake order.old.waiting engine.old }
-    requires room { taken_and_waiting order.old.waiting engine.old < 2 ^ 32 }
-    ensures plan { engine.new.plan ≡ engine.old.plan }
-    ensures settled { OnOk result (order.new ≡ settled order.old) }
-    ensures takes { OnOk result (CanTake order.new.waiting engine.new) }
-    ensures kept { OnOk result (taken_and_waiting order.new.waiting engine.new ≡ taken_and_waiting order.old.waiting engine.old) }
-    ensures last { (time : ℤ) → order.old.mark ≡ Some (At time) → IsNotBefore engine.old.last time → OnOk result (IsNotBefore engine.new.last time) }
-    ensures taken { (ticks : List Tick) → StandsFor ticks engine.old → IfOk result (λ done. HasTaken ticks (map event_tick (ready order.old)) engine.old engine.new) }
-{
-    while let Some(event) = order.next_ready() {
-        feed(engine, event)?;
-    }
-    Ok(())
-}
-
-// Takes a mark: where it rises, the events that it releases go to the engine, and then the mark itself.
-fn raise(order: &mut Order, engine: &mut Engine, time: i64) -> Result<(), NoMemory>
-    requires running { IsRunning order.old engine.old }
-    requires room { taken_and_waiting order.old.waiting engine.old < 2 ^ 32 }
-    ensures plan { engine.new.plan ≡ engine.old.plan }
-    ensures running { OnOk result (IsRunning order.new engine.new) }
-    ensures kept { OnOk result (taken_and_waiting order.new.waiting engine.new ≡ taken_and_waiting order.old.waiting engine.old) }
-    ensures met { (lag : Option ℕ) (arrivals : List Arrival) (ticks : List Tick) → order.old ≡ order_of lag arrivals → StandsFor ticks engine.old
-        → IfOk result (λ done. HasMet lag arrivals (marked time ∷ []) ticks engine.old engine.new order.new) }
-{
-    if !order.mark(time) {
-        return Ok(());
-    }
-    release(order, engine)?;
-    close(engine, time)?;
-    Ok(())
-}
-
-// Takes an event, and gives its row where it is late.
-fn admit(order: &mut Order, event: Event) -> Result<Option<u32>, NoMemory>
-    requires rows { Each (λ waiting. waiting.row < event.row) order.old.waiting }
-    ensures late { (lag : Option ℕ) (arrivals : List Arrival) → order.old ≡ order_of lag arrivals
-        → IfOk result (λ late. late ≡ (if is_late arrivals event then Some event.row else None)) }
-    ensures order { (lag : Option ℕ) (arrivals : List Arrival) → order.old ≡ order_of lag arrivals
-        → IfOk result (λ late. order.new ≡ order_of lag (arrivals ++ arrived event ∷ [])) }
-    ensures state { OnOk result (order.new ≡ with_event order.old event) }
-{
-    match order.arrive(event)? {
-        Arrived::Late(row) => Ok(Some(row)),
-        Arrived::Kept => Ok(None),
-    }
-}
-
-// Takes the mark that the lag adds behind the event that came last.
-fn follow(order: &mut Order, engine: &mut Engine) -> Result<(), NoMemory>
-    requires running { IsRunning order.old engine.old }
-    requires room { taken_and_waiting order.old.waiting engine.old < 2 ^ 32 }
-    ensures plan { engine.new.plan ≡ engine.old.plan }
-    ensures running { OnOk result (IsRunning order.new engine.new) }
-    ensures kept { OnOk result (taken_and_waiting order.new.waiting engine.new ≡ taken_and_waiting order.old.waiting engine.old) }
-    ensures met { (lag : Option ℕ) (before : List Arrival) (event : Event) (ticks : List Tick) → order.old ≡ order_of lag (before ++ arrived event ∷ []) → StandsFor ticks engine.old
-        → IfOk result (λ done. HasMet lag (before ++ arrived event ∷ []) (marks_behind lag (event_times before) event.ts) ticks engine.old engine.new order.new) }
-{
-    match order.lag_mark() {
-        Some(time) => raise(order, engine, time),
-        None => Ok(()),
-    }
-}
-
-// Takes a mark of the input.
-fn take_mark(order: &mut Order, engine: &mut Engine, time: i64) -> Result<Option<u32>, NoMemory>
-    requires running { IsRunning order.old engine.old }
-    requires room { taken_and_waiting order.old.waiting engine.old < 2 ^ 32 }
-    ensures plan { engine.new.plan ≡ engine.old.plan }
-    ensures running { OnOk result (IsRunning order.new engine.new) }
-    ensures kept { OnOk result (taken_and_waiting order.new.waiting engine.new ≡ taken_and_waiting order.old.waiting engine.old) }
-    ensures gone { (lag : Option ℕ) (records : List LineRecord) → order.old ≡ order_of lag (arrivals_of lag records) → StandsFor (ticks_of lag records) engine.old
-        → IfOk result (λ late. HasGone lag records (Mark time) late engine.old engine.new order.new) }
-{
-    raise(order, engine, time)?;
-    Ok(None)
-}
-
-// Takes an event of the input, and the mark that the lag adds behind it.
-fn take_event(order: &mut Order, engine: &mut Engine, event: Event) -> Result<Option<u32>, NoMemory>
-    requires rows { Each (λ waiting. waiting.row < event.row) order.old.waiting }
-    requires running { IsRunning order.old engine.old }
-    requires room { taken_and_waiting order.old.waiting engine.old < 2 ^ 32 - 1 }
-    ensures plan { engine.new.plan ≡ engine.old.plan }
-    ensures running { OnOk result (IsRunning order.new engine.new) }
-    ensures grown { OnOk result (taken_and_waiting order.new.waiting engine.new ≤ taken_and_waiting order.old.waiting engine.old + 1) }
-    ensures gone { (lag : Option ℕ) (records : List LineRecord) → order.old ≡ order_of lag (arrivals_of lag records) → StandsFor (ticks_of lag records) engine.old
-        → IfOk result (λ late. HasGone lag records (Row event) late engine.old engine.new order.new) }
-{
-    let late = admit(order, event)?;
-    follow(order, engine)?;
-    Ok(late)
-}
 
 /// The record of a line. A heading says nothing, whatever it holds.
 pub(crate) fn record_in(
@@ -176,76 +38,69 @@ pub(crate) fn record_in(
     record_of(alloc, plan, line, row)
 }
 
-/// Takes the record of a line, and gives the row of an event that is late.
-pub(crate) fn take_record(
-    order: &mut Order,
-    engine: &mut Engine,
+/// A pipeline for a plan that can be used.
+#[tactic(auto, using(crate::proofs::TableLaws::compilable))]
+pub(crate) fn pipeline_for(
+    alloc: Global,
+    lag: Option<u64>,
+    plan: Plan,
+) -> Result<Pipeline, NoMemory>
+    requires { IsUsable plan }
+    ensures { IfOk result (λ made. HasHandled lag plan [] made) }
+{
+    Pipeline::new(alloc, lag, plan)
+}
+
+// Takes a record, and writes the text that it causes.
+fn cause<K: Sink>(
+    pipeline: &mut Pipeline,
+    rows: &mut RowWriter,
     next: LineRecord,
-) -> Result<Option<u32>, NoMemory>
-    requires rows { ComesBehind order.old.waiting next }
-    requires running { IsRunning order.old engine.old }
-    requires room { taken_and_waiting order.old.waiting engine.old < 2 ^ 32 - 1 }
-    ensures plan { engine.new.plan ≡ engine.old.plan }
-    ensures running { OnOk result (IsRunning order.new engine.new) }
-    ensures grown { OnOk result (taken_and_waiting order.new.waiting engine.new ≤ taken_and_waiting order.old.waiting engine.old + 1) }
-    ensures gone { (lag : Option ℕ) (records : List LineRecord) → order.old ≡ order_of lag (arrivals_of lag records) → StandsFor (ticks_of lag records) engine.old
-        → IfOk result (λ late. HasGone lag records next late engine.old engine.new order.new) }
+    output: &mut K,
+) -> Result<(), TellFault>
+    requires ready { (lag : Option ℕ) × (plan : Plan) × (records : List LineRecord) × HasHandled lag plan records pipeline.old × ComesBehind records next × (length records < 2 ^ 32 - 1) }
+    requires empty { rows.old.gathered ≡ [] }
+    ensures caused { (lag : Option ℕ) (plan : Plan) (records : List LineRecord) → HasHandled lag plan records pipeline.old
+        → IsCaused lag plan records next pipeline.new (K.taken output.old) (K.taken output.new) result }
+    ensures empty { OnOk result (rows.new.gathered ≡ []) }
+    ensures later { K.faults output.old ≤ K.faults output.new }
+    ensures fault { result ≡ Err TellFault.Failed → Rose (K.faults output.old) (K.faults output.new) }
 {
-    match next {
-        LineRecord::Blank => Ok(None),
-        LineRecord::Mark(time) => take_mark(order, engine, time),
-        LineRecord::Row(event) => take_event(order, engine, event),
-    }
+    pipeline.take(next, rows, output)?;
+    rows.flush(output)
 }
 
-// The row that tells of a late event, by the event's own row.
-fn late_text(alloc: Global, late: Option<u32>) -> Result<ByteList, NoMemory>
-    ensures { IfOk result (λ text. text ≡ late_text late) }
+// Writes the text that is owed at the end.
+fn owe<K: Sink>(pipeline: Pipeline, rows: &mut RowWriter, output: &mut K) -> Result<(), TellFault>
+    requires ready { (lag : Option ℕ) × (plan : Plan) × (records : List LineRecord) × HasHandled lag plan records pipeline × (length records < 2 ^ 32) }
+    requires empty { rows.old.gathered ≡ [] }
+    ensures owed { (lag : Option ℕ) (plan : Plan) (records : List LineRecord) → HasHandled lag plan records pipeline
+        → IsWritten (owed_text lag plan records) (K.taken output.old) (K.taken output.new) result }
+    ensures later { K.faults output.old ≤ K.faults output.new }
+    ensures fault { result ≡ Err TellFault.Failed → Rose (K.faults output.old) (K.faults output.new) }
 {
-    match late {
-        Some(row) => late_row(alloc, row),
-        None => Ok(ByteList::new(alloc)),
-    }
+    pipeline.end(rows, output)?;
+    rows.flush(output)
 }
 
-// The rows of the end, where the engine has all events.
-fn owed(alloc: Global, engine: Engine) -> Result<ByteList, NoMemory>
-    requires few { length engine.plan.stages ≤ 65536 }
-    requires fresh { engine.spent ≡ false }
-    requires short { (ticks : List Tick) × StandsFor ticks engine × All IsShort (engine.items ++ kept_at engine.plan ticks (mark_tick End)) }
-    ensures { (ticks : List Tick) → StandsFor ticks engine → IfOk result (λ text. text ≡ rows_of engine.plan (engine.items ++ kept_at engine.plan ticks (mark_tick End))) }
-{
-    match engine.end_with_plan() {
-        Ok((plan, items)) => rows_of(alloc, &plan, &items),
-        Err(EngineFault::NoMemory) => Err(NoMemory),
-        Err(EngineFault::Spent) => unreachable!(),
-    }
-}
-
-/// A run under a plan: what arrives is ordered by event time, and the engine takes the ticks.
+/// A run under a plan.
 #[derive(Drop)]
 pub(crate) struct EngineRun {
-    pub(crate) alloc: Global,
-    pub(crate) order: Order,
-    pub(crate) engine: Engine,
-    /// Whether the first line is a heading.
-    pub(crate) header: bool,
-    pub(crate) handled: u32,
+    alloc: Global,
+    pipeline: Pipeline,
+    rows: RowWriter,
+    // Whether the first line is a heading.
+    header: bool,
+    handled: u32,
 }
 
 impl EngineRun {
-    ghost use Rattle.std.specs.Prelude.{◌≡◌, ◌≤◌, ◌<◌, ◌^◌, ◌-◌, ◌+◌, ◌++◌, ◌∷◌, [], List, ℕ, length, IfOk, OnOk, Option};
-    ghost use Rattle.std.specs.List.{AllByRecursion as Each};
-    ghost use Rattle.cep_event.specs.declared.record.LineRecord.{LineRecord};
-    ghost use Rattle.cep_plan.specs.EventTime.{arrivals_of, ticks_of};
-    ghost use Rattle.cep_engine.specs.State.{StandsFor};
+    ghost use Rattle.std.specs.Prelude.{[], IfOk};
     ghost use Rattle.pattern_file.specs.Usable.{IsUsable};
-    ghost use Rattle.watermark_order.specs.Order.{order_of};
-    ghost use Rattle.cep_cli.specs.Meaning.{meaning_of, caused_text};
-    ghost use Rattle.cep_cli.specs.Run.{ComesBehind, HasRun, IsRunning, taken_and_waiting};
+    ghost use Rattle.cep_cli.specs.Meaning.{meaning_of};
+    ghost use Rattle.cep_cli.specs.Run.{HasRun};
 
     /// A run that has handled no line.
-    #[tactic(auto, using(crate::proofs::TableLaws::compilable))]
     pub(crate) fn new(
         alloc: Global,
         header: bool,
@@ -253,85 +108,56 @@ impl EngineRun {
         plan: Plan,
     ) -> Result<EngineRun, NoMemory>
         requires { IsUsable plan }
-        ensures run { IfOk result (λ run. HasRun (meaning_of header lag plan) run.header run.order run.engine run.handled []) }
-        ensures header { IfOk result (λ run. run.header ≡ header) }
-        ensures lag { IfOk result (λ run. run.order.lag ≡ lag) }
-        ensures plan { IfOk result (λ run. run.engine.plan ≡ plan) }
+        ensures run { IfOk result (λ run. HasRun (meaning_of header lag plan) run.header run.pipeline run.rows.gathered run.handled []) }
     {
         Ok(EngineRun {
             alloc,
-            order: Order::new(alloc, lag),
-            engine: Engine::new(alloc, plan)?,
+            pipeline: pipeline_for(alloc, lag, plan)?,
+            rows: RowWriter::new(alloc),
             header,
             handled: 0,
         })
-    }
-
-    // The text that a record causes.
-    fn caused(&mut self, next: LineRecord) -> Result<ByteList, NoMemory>
-        requires rows { ComesBehind self.old.order.waiting next }
-        requires few { length self.old.engine.plan.stages ≤ 65536 }
-        requires running { IsRunning self.old.order self.old.engine }
-        requires room { taken_and_waiting self.old.order.waiting self.old.engine < 2 ^ 32 - 1 }
-        requires stands { (lag : Option ℕ) × (records : List LineRecord) × (self.old.order ≡ order_of lag (arrivals_of lag records)) × StandsFor (ticks_of lag records) self.old.engine }
-        requires items { self.old.engine.items ≡ [] }
-        ensures plan { self.new.engine.plan ≡ self.old.engine.plan }
-        ensures header { self.new.header ≡ self.old.header }
-        ensures handled { self.new.handled ≡ self.old.handled }
-        ensures caused { (lag : Option ℕ) (records : List LineRecord) → self.old.order ≡ order_of lag (arrivals_of lag records) → StandsFor (ticks_of lag records) self.old.engine
-            → IfOk result (λ text. text ≡ caused_text lag self.old.engine.plan records next) }
-        ensures order { (lag : Option ℕ) (records : List LineRecord) → self.old.order ≡ order_of lag (arrivals_of lag records) → StandsFor (ticks_of lag records) self.old.engine
-            → IfOk result (λ text. self.new.order ≡ order_of lag (arrivals_of lag (records ++ next ∷ []))) }
-        ensures engine { (lag : Option ℕ) (records : List LineRecord) → self.old.order ≡ order_of lag (arrivals_of lag records) → StandsFor (ticks_of lag records) self.old.engine
-            → IfOk result (λ text. StandsFor (ticks_of lag (records ++ next ∷ [])) self.new.engine) }
-        ensures items { OnOk result (self.new.engine.items ≡ []) }
-        ensures running { OnOk result (IsRunning self.new.order self.new.engine) }
-        ensures grown { OnOk result (taken_and_waiting self.new.order.waiting self.new.engine ≤ taken_and_waiting self.old.order.waiting self.old.engine + 1) }
-    {
-        let late = take_record(&mut self.order, &mut self.engine, next)?;
-        let mut text = late_text(self.alloc, late)?;
-        let items = self.engine.items();
-        let rows = rows_of(self.alloc, self.engine.plan(), &items)?;
-        text.extend(rows.as_slice())?;
-        Ok(text)
     }
 }
 
 impl Handler for EngineRun {
     ghost use Rattle.cep_cli.specs.Run.{HasRun};
 
-    ghost stands = { λ s m lines. HasRun m s.header s.order s.engine s.handled lines };
+    ghost stands = { λ s m lines. HasRun m s.header s.pipeline s.rows.gathered s.handled lines };
 
     fn too_long(&self) -> RowCause {
         RowCause::LineTooLong
     }
 
-    fn line(&mut self, line: &Line) -> Result<ByteList, LineFault> {
+    fn line<K: Sink>(&mut self, line: &Line, output: &mut K) -> Result<(), LineFault> {
         let row = self.handled + 1;
-        let next = match record_in(self.alloc, self.header, self.engine.plan(), line, row) {
+        let next = match record_in(self.alloc, self.header, self.pipeline.plan(), line, row) {
             Ok(next) => next,
             Err(RowFault::NoMemory) => return Err(LineFault::NoMemory),
             Err(RowFault::Bad(cause)) => return Err(LineFault::Refused(cause)),
         };
-        match self.caused(next) {
-            Ok(text) => {
+        match cause(&mut self.pipeline, &mut self.rows, next, output) {
+            Ok(()) => {
                 self.handled = row;
-                Ok(text)
+                Ok(())
             }
-            Err(_) => Err(LineFault::NoMemory),
+            Err(TellFault::NoMemory) => Err(LineFault::NoMemory),
+            Err(TellFault::Failed) => Err(LineFault::Unwritten),
         }
     }
 
-    fn end(self) -> Result<ByteList, NoMemory> {
+    fn end<K: Sink>(self, output: &mut K) -> Result<(), EndFault> {
         let EngineRun {
-            alloc,
-            mut order,
-            mut engine,
+            alloc: _,
+            pipeline,
+            mut rows,
             header: _,
             handled: _,
         } = self;
-        order.end();
-        release(&mut order, &mut engine)?;
-        owed(alloc, engine)
+        match owe(pipeline, &mut rows, output) {
+            Ok(()) => Ok(()),
+            Err(TellFault::NoMemory) => Err(EndFault::NoMemory),
+            Err(TellFault::Failed) => Err(EndFault::Unwritten),
+        }
     }
 }

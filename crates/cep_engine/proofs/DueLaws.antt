@@ -8,10 +8,21 @@ use Rattle.cep_event.specs.Moment.{has_reached}
 use Rattle.cep_plan.specs.Limit.{is_limit_reached, is_due, is_time_left}
 use Rattle.cep_plan.proofs.FilteredLaws.{Contains-filter}
 use Rattle.live_laws.proofs.LiveLaws.{list_any-contains}
-use Rattle.live_laws.proofs.MemberLaws.{filter-filter, filter-map, map_back}
+use Rattle.cep_plan.proofs.RisingLaws.{Each-map}
+use Rattle.live_laws.proofs.MemberLaws.{filter-filter, filter-map, map_back, Each-filter}
 use Rattle.time_limit.specs.declared.limits.Start.{Start}
 use Rattle.time_limit.specs.Limits.{limited, is_over, first_over, without_first_over}
 use Rattle.cep_engine.specs.Due.{due_among, left_among}
+
+-- ---- what holds of each
+
+pub Each-of_map : {X Y : Type 0} (P : Y → Type 0) (f : X → Y) (xs : List X) → Each P (map f xs) → Each (λ x. P (f x)) xs
+Each-of_map P f [] h = tt
+Each-of_map P f (x ∷ xs) h = (h.0, Each-of_map P f xs h.1)
+
+-- what holds of each start holds of each that is due
+pub due_each : (P : ℕ → Type 0) (test : Start → Bool) (starts : List Start) → Each (λ s. P s.position) starts → Each P (map (λ s. s.position) (filter test starts))
+due_each P test starts h = Each-map P (λ (s : Start). s.position) (filter test starts) (Each-filter (λ (s : Start). P s.position) test starts h)
 
 -- ---- one after another
 

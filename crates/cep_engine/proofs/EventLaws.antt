@@ -27,15 +27,17 @@ use Rattle.live_laws.proofs.MemberLaws.{Each-from_contains, Each-filter}
 use Rattle.live_laws.proofs.PartialLaws.{may_grow-among, is_partial-may_grow}
 use Rattle.live_laws.proofs.TickLaws.{alive-begins, kept_tick}
 use Rattle.live_laws.proofs.TimeLaws.{matches_at-late}
+use Rattle.shared_buffer.specs.Content.{Content as BufferContent}
 use Rattle.run_step.specs.Content.{Content}
-use Rattle.run_step.specs.Runs.{Stands}
 use Rattle.time_limit.specs.Limits.{Kept, limited}
 use Rattle.cep_engine.specs.Due.{due_among, left_among}
+use Rattle.cep_engine.specs.Running.{RunsStand}
 use Rattle.cep_engine.specs.Small.{AreSmall}
 use Rattle.cep_engine.specs.Standing.{kept_of, kept_at, open_after, IsBelow, PartsStand, ComesLater}
 use Rattle.cep_engine.proofs.KeptLaws.{AreBelow-later, AreBelow-timeouts, kept_after-each, is_start_alive-next, is_start_alive-timeouts, is_start_alive-append}
-use Rattle.cep_engine.proofs.LoopLaws.{Stands-same, map-map}
-use Rattle.cep_engine.proofs.OpenLaws.{events_of-event, last_time-push, kept_of-push, filter-passes, open_new, Stands-event, starts_among-event, starts_among-killed, kill_order}
+use Rattle.cep_engine.proofs.LoopLaws.{map-map}
+use Rattle.cep_engine.proofs.OpenLaws.{events_of-event, last_time-push, kept_of-push, filter-passes, open_new, RunsStand-event, starts_among-event, starts_among-killed, kill_order}
+use Rattle.cep_engine.proofs.RunningLaws.{RunsStand-same}
 use Rattle.cep_engine.proofs.TickLaws.{parts_from, parts_of, saved_timeouts, runs_left, limits_left}
 
 -- each match of a tick has its events among those so far
@@ -57,7 +59,7 @@ not_true false h = refl
 taken_below : (events : List Event) (position : ℕ) (list : List Entry) → Each (λ e. e.position < position) list → Each (λ t. t.position < position) (taken_of events list)
 taken_below events position list h = Each-map (λ (t : Taken). t.position < position) (taken_at events) list h
 
-module _ (plan : Plan) (ticks : List Tick) (content : Content) (saved : Kept) (parts : PartsStand plan ticks content saved) (event : Event) (later : ComesLater ticks (At event.ts)) (limit : IfSome plan.within (λ w. 0 < w)) where
+module _ (plan : Plan) (ticks : List Tick) (content : Content) (buffer : BufferContent) (saved : Kept) (parts : PartsStand plan ticks content buffer saved) (event : Event) (later : ComesLater ticks (At event.ts)) (limit : IfSome plan.within (λ w. 0 < w)) where
   abbrev before : List Event
   before = events_of ticks
 
@@ -79,9 +81,9 @@ module _ (plan : Plan) (ticks : List Tick) (content : Content) (saved : Kept) (p
   is_open = open_new plan (events_of ticks) (kept_of plan ticks) event (is_start_alive-next (length (events_of ticks)) plan.skip (kept_of plan ticks) parts.below) limit
 
   -- before the step the runs stand for the starts that are open at the event
-  pub runs_ready : (after : Content) → Stands plan (events_of ticks) (λ p. open_after plan ticks p && not (list_any (λ s. s == p) (due_among saved.within (At event.ts) saved.starts))) after
-      → Stands plan (events_of ticks) (open_starts plan (events_of ticks ++ event ∷ []) (kept_of plan ticks) (Some (At event.ts))) after
-  runs_ready after stands = Stands-event plan (events_of ticks) (kept_of plan ticks) event after (runs_left plan ticks content saved parts (At event.ts) later after stands)
+  pub runs_ready : (after : Content) (after_buffer : BufferContent) → RunsStand plan (events_of ticks) (λ p. open_after plan ticks p && not (list_any (λ s. s == p) (due_among saved.within (At event.ts) saved.starts))) after after_buffer
+      → RunsStand plan (events_of ticks) (open_starts plan (events_of ticks ++ event ∷ []) (kept_of plan ticks) (Some (At event.ts))) after after_buffer
+  runs_ready after after_buffer stands = RunsStand-event plan (events_of ticks) (kept_of plan ticks) event after after_buffer (runs_left plan ticks content buffer saved parts (At event.ts) later after after_buffer stands)
 
   -- the matches of the tick from the starts that are alive
   same_matches : filter (begins_in open_now) (matches_at plan (events_of ticks) event) ≡ filter (begins_in alive) (matches_at plan (events_of ticks) event)
@@ -132,7 +134,7 @@ module _ (plan : Plan) (ticks : List Tick) (content : Content) (saved : Kept) (p
         → map (λ list. Timeout (taken_of (events_of ticks) list)) (flat_map (waiting_at plan (events_of ticks)) (due_among saved.within (At event.ts) saved.starts)) ++ map Match found ≡ kept_at plan ticks (event_tick event)
     unfolding items_at
     kept_at-event found is =
-        (λ i. saved_timeouts plan ticks content saved parts (At event.ts) i ++ (is ∙ kept_matches-same) i)
+        (λ i. saved_timeouts plan ticks content buffer saved parts (At event.ts) i ++ (is ∙ kept_matches-same) i)
         ∙ sym (kept_tick plan (events_of ticks) (last_time ticks) (kept_of plan ticks) event)
 
     kept_below : Each (IsBelow (length (events_of ticks ++ event ∷ []))) (kept plan.skip (map Match lists))
@@ -140,11 +142,11 @@ module _ (plan : Plan) (ticks : List Tick) (content : Content) (saved : Kept) (p
     kept_below = kept_after-each (IsBelow (length whole)) plan.skip [] (map Match lists) matches_below
 
     -- ---- after the tick
-    pub PartsStand-event : (found : List (List Taken)) → map Match found ≡ kept plan.skip (map Match lists) → (after : Content) (left : Kept)
-        → Stands plan (events_of ticks ++ event ∷ []) (λ p. open_starts plan (events_of ticks ++ event ∷ []) (kept_of plan ticks) (Some (At event.ts)) p && not (list_any (item_kills_start plan.skip p) (map Match found))) after
+    pub PartsStand-event : (found : List (List Taken)) → map Match found ≡ kept plan.skip (map Match lists) → (after : Content) (after_buffer : BufferContent) (left : Kept)
+        → RunsStand plan (events_of ticks ++ event ∷ []) (λ p. open_starts plan (events_of ticks ++ event ∷ []) (kept_of plan ticks) (Some (At event.ts)) p && not (list_any (item_kills_start plan.skip p) (map Match found))) after after_buffer
         → left ≡ record { within = saved.within; starts = filter (λ s. not (list_any (item_kills_start plan.skip s.position) (map Match found))) (left_among saved.within (At event.ts) saved.starts ++ limited saved.within (record { position = length (events_of ticks); ts = event.ts } ∷ [])) }
-        → PartsStand plan (ticks ++ event_tick event ∷ []) after left
-    PartsStand-event found is after left stands limits =
+        → PartsStand plan (ticks ++ event_tick event ∷ []) after after_buffer left
+    PartsStand-event found is after after_buffer left stands limits =
         let shown = flat_map (waiting_at plan before) (due_among saved.within (At event.ts) saved.starts) in
         let timeouts = map (λ list. Timeout (taken_of before list)) shown in
         let matches = map Match found in
@@ -156,14 +158,14 @@ module _ (plan : Plan) (ticks : List Tick) (content : Content) (saved : Kept) (p
         ∙ ap (λ b. b && not (killed p)) (is_start_alive-timeouts plan.skip items (taken_of before) shown p) in
         let after_open : (p : ℕ) → open_starts plan whole (items ++ (timeouts ++ matches)) (Some now) p ≡ ((alive p && not (killed p)) && left_now p) = λ p. ap (λ b. b && left_now p) (alive_after p) in
         let same : (p : ℕ) → (open_now p && not (killed p)) ≡ open_starts plan whole (items ++ (timeouts ++ matches)) (Some now) p = λ p. kill_order (alive p) (left_now p) (killed p) ∙ sym (after_open p) in
-        let before_limits = limits_left plan ticks content saved parts now later in
+        let before_limits = limits_left plan ticks content buffer saved parts now later in
         let starts = (λ i. filter (λ s. not (killed s.position)) ((before_limits i).starts ++ limited (parts.limits i).within (record { position = length before; ts = event.ts } ∷ [])))
         ∙ ap (filter (λ s. not (killed s.position))) (starts_among-event plan before items event is_open) ∙ starts_among-killed plan whole alive left_now killed (open_starts plan whole (items ++ (timeouts ++ matches)) (Some now)) after_open in
-        parts_from plan (ticks ++ event_tick event ∷ []) after left
-        (parts_of plan _ whole _ (items ++ (timeouts ++ matches)) _ (Some now) after left
+        parts_from plan (ticks ++ event_tick event ∷ []) after after_buffer left
+        (parts_of plan _ whole _ (items ++ (timeouts ++ matches)) _ (Some now) after after_buffer left
         (events_of-event ticks event) (kept_of-push plan ticks (event_tick event) ∙ ap (λ r. items ++ r) (sym (kept_at-event found is))) (last_time-push ticks (event_tick event))
         (record {
-          are_runs = Stands-same plan whole _ _ after same stands;
+          are_runs = RunsStand-same plan whole _ _ after after_buffer same stands;
           are_limits = limits ∙ (λ i. record { within = (parts.limits i).within; starts = starts i });
           are_below = Each-append (IsBelow (length whole)) items (timeouts ++ matches) (AreBelow-later (length before) (length whole) (omega (arith, length-append before (event ∷ []))) items parts.below)
               (Each-append (IsBelow (length whole)) timeouts matches (AreBelow-timeouts (length whole) (taken_of before) shown) (subst (Each (IsBelow (length whole))) (sym is) (kept_below)));

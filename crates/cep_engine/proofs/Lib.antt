@@ -5,3 +5,8 @@ pub mod OpenLaws
 pub mod TickLaws
 pub mod EventLaws
 pub mod TimeLaws
+pub mod ReachLaws
+pub mod RunningLaws
+pub mod TipLaws
+pub mod AdvanceLaws
+pub mod SharingLaws

@@ -1,5 +1,5 @@
 -- The steps of the loops over starts and matches.
-use Rattle.std.proofs.Common.{◌≡◌, refl, sym, ◌∙◌, ap, subst, ℕ, suc, zero, ◌+◌, ◌<◌, arith, Bool, true, false, not, ◌&&◌, ◌||◌, cond, List, [], ◌∷◌, ◌++◌, length, map, take, get_or}
+use Rattle.std.proofs.Common.{◌≡◌, refl, sym, ◌∙◌, ap, ℕ, suc, zero, ◌+◌, ◌<◌, arith, Bool, true, false, not, ◌&&◌, ◌||◌, cond, List, [], ◌∷◌, ◌++◌, length, map, take, get_or}
 use Rattle.std.specs.Prelude.{filter, flat_map}
 use Rattle.std.specs.List.{list_any, AllByRecursion as Each}
 use Rattle.std.proofs.lemmas.List.{take_more}
@@ -13,8 +13,10 @@ use Rattle.cep_plan.specs.declared.item.Item.TheVariants.{Match}
 use Rattle.cep_plan.specs.Skipping.{is_killed, kept_after}
 use Rattle.cep_plan.proofs.HistoryLaws.{kept_after-append}
 use Rattle.live_laws.proofs.MemberLaws.{filter-filter}
+use Rattle.shared_buffer.specs.Content.{Content as BufferContent}
 use Rattle.run_step.specs.Content.{Content}
-use Rattle.run_step.specs.Runs.{Stands}
+use Rattle.cep_engine.specs.Running.{RunsStand}
+use Rattle.cep_engine.proofs.RunningLaws.{RunsStand-same}
 
 -- ---- lists
 
@@ -79,15 +81,12 @@ or_false : (a : Bool) → (a || false) ≡ a
 or_false true = refl
 or_false false = refl
 
--- runs stand for starts that are the same
-pub Stands-same : (plan : Plan) (events : List Event) (starts other : ℕ → Bool) (content : Content) → ((p : ℕ) → starts p ≡ other p) → Stands plan events starts content → Stands plan events other content
-Stands-same plan events starts other content same stands = subst (λ s. Stands plan events s content) (λ i p. same p i) stands
-
 -- one more of those that are left out, by a test that says the same of it
-pub Stands-more : {X : Type 0} (kills : X → ℕ → Bool) (plan : Plan) (events : List Event) (starts test : ℕ → Bool) (content : Content) (xs : List X) (i : ℕ) (x : X) → x ≡ get_or xs i x → i < length xs → ((p : ℕ) → test p ≡ kills x p)
-    → Stands plan events (λ p. (starts p && not (list_any (λ y. kills y p) (take i xs))) && not (test p)) content → Stands plan events (λ p. starts p && not (list_any (λ y. kills y p) (take (i + 1) xs))) content
-Stands-more kills plan events starts test content xs i x is lt same stands =
-    Stands-same plan events (λ p. (starts p && not (list_any (λ y. kills y p) (take i xs))) && not (test p)) (λ p. starts p && not (list_any (λ y. kills y p) (take (i + 1) xs))) content
+pub RunsStand-more : {X : Type 0} (kills : X → ℕ → Bool) (plan : Plan) (events : List Event) (starts test : ℕ → Bool) (content : Content) (buffer : BufferContent) (xs : List X) (i : ℕ) (x : X)
+    → x ≡ get_or xs i x → i < length xs → ((p : ℕ) → test p ≡ kills x p)
+    → RunsStand plan events (λ p. (starts p && not (list_any (λ y. kills y p) (take i xs))) && not (test p)) content buffer → RunsStand plan events (λ p. starts p && not (list_any (λ y. kills y p) (take (i + 1) xs))) content buffer
+RunsStand-more kills plan events starts test content buffer xs i x is lt same stands =
+    RunsStand-same plan events (λ p. (starts p && not (list_any (λ y. kills y p) (take i xs))) && not (test p)) (λ p. starts p && not (list_any (λ y. kills y p) (take (i + 1) xs))) content buffer
     (λ p. and_not_either (starts p) (list_any (λ y. kills y p) (take i xs)) (test p)
     ∙ ap (λ b. starts p && not b)
     (ap (λ b. list_any (λ y. kills y p) (take i xs) || b) (same p ∙ sym (or_false (kills x p)))

@@ -23,15 +23,16 @@ use Rattle.live_laws.specs.Starts.{is_start_alive, open_starts, due_starts}
 use Rattle.live_laws.proofs.LastLaws.{last_or-push}
 use Rattle.live_laws.proofs.MemberLaws.{filter-filter, filter-map, filter-same, Each-filter, Contains-range}
 use Rattle.live_laws.proofs.TimeLaws.{is_time_left-due}
+use Rattle.shared_buffer.specs.Content.{Content as BufferContent}
 use Rattle.run_step.specs.Content.{Content}
-use Rattle.run_step.specs.Runs.{Stands}
-use Rattle.run_step.proofs.RunLaws.{StandsFor-agree}
 use Rattle.time_limit.specs.declared.limits.Start.{Start}
 use Rattle.time_limit.specs.Limits.{limited}
 use Rattle.cep_engine.specs.Due.{due_among, left_among}
+use Rattle.cep_engine.specs.Running.{RunsStand}
 use Rattle.cep_engine.specs.Standing.{kept_of, kept_at, start_at, starts_among}
 use Rattle.cep_engine.proofs.DueLaws.{due_among-limited, left_among-limited, is_among-filtered}
 use Rattle.cep_engine.proofs.LoopLaws.{map-joined}
+use Rattle.cep_engine.proofs.RunningLaws.{RunsStand-agree}
 
 -- ---- ticks
 
@@ -151,17 +152,15 @@ module _ (plan : Plan) (ticks : List Tick) (items : List Item) (now : Moment) wh
       left_bits (alive p) (is_time_left limit (Some moment)) (is_due limit (Some moment) now) ∙ ap (λ b. alive p && b) (is_time_left-due limit moment now later)
 
   -- the runs without those of the due starts are those of the starts that are still open
-  pub Stands-left : IfSome (last_time ticks) (λ earlier. (t : ℤ) → has_reached earlier t ≡ true → has_reached now t ≡ true) → (content : Content)
-      → Stands plan (events_of ticks) (λ p. open_before p && not (list_any (λ s. s == p) (due_among plan.within now (starts_among plan (events_of ticks) open_before)))) content
-      → Stands plan (events_of ticks) (open_starts plan (events_of ticks) items (Some now)) content
-  Stands-left later content stands =
+  pub RunsStand-left : IfSome (last_time ticks) (λ earlier. (t : ℤ) → has_reached earlier t ≡ true → has_reached now t ≡ true) → (content : Content) (buffer : BufferContent)
+      → RunsStand plan (events_of ticks) (λ p. open_before p && not (list_any (λ s. s == p) (due_among plan.within now (starts_among plan (events_of ticks) open_before)))) content buffer
+      → RunsStand plan (events_of ticks) (open_starts plan (events_of ticks) items (Some now)) content buffer
+  RunsStand-left later content buffer stands =
       let positions = range_with_len 0 (length (events_of ticks)) in
-      let due = due_starts plan (events_of ticks) (last_time ticks) now alive in (
-        stands.0,
-        StandsFor-agree plan (events_of ticks) (λ p. open_before p && not (list_any (λ s. s == p) (due_among plan.within now (starts_among plan (events_of ticks) open_before)))) (open_starts plan (events_of ticks) items (Some now))
-            (λ p lt. ap (λ b. open_before p && not b) (ap (list_any (λ s. s == p)) due_among-starts ∙ is_among-filtered due positions p (Contains-range 0 (length (events_of ticks)) p (omega arith) (omega (arith, lt))))
-            ∙ still_open (last_time ticks) refl later p lt) content.runs stands.1,
-      )
+      let due = due_starts plan (events_of ticks) (last_time ticks) now alive in
+      RunsStand-agree plan (events_of ticks) (λ p. open_before p && not (list_any (λ s. s == p) (due_among plan.within now (starts_among plan (events_of ticks) open_before)))) (open_starts plan (events_of ticks) items (Some now)) content buffer
+      (λ p lt. ap (λ b. open_before p && not b) (ap (list_any (λ s. s == p)) due_among-starts ∙ is_among-filtered due positions p (Contains-range 0 (length (events_of ticks)) p (omega arith) (omega (arith, lt))))
+      ∙ still_open (last_time ticks) refl later p lt) stands
 
 -- ---- one more event
 
@@ -190,8 +189,8 @@ module _ (plan : Plan) (events : List Event) (items : List Item) (event : Event)
   open_old : (p : ℕ) → p < length events → open_starts plan events items (Some (At event.ts)) p ≡ open_now p
   open_old p lt = ap (λ e. is_start_alive plan.skip items p && is_time_left (limit_from plan e) (Some (At event.ts))) (sym (event_at-append events (event ∷ []) p lt))
 
-  pub Stands-event : (content : Content) → Stands plan events (open_starts plan events items (Some (At event.ts))) content → Stands plan events open_now content
-  Stands-event content stands = (stands.0, StandsFor-agree plan events (open_starts plan events items (Some (At event.ts))) open_now open_old content.runs stands.1)
+  pub RunsStand-event : (content : Content) (buffer : BufferContent) → RunsStand plan events (open_starts plan events items (Some (At event.ts))) content buffer → RunsStand plan events open_now content buffer
+  RunsStand-event content buffer stands = RunsStand-agree plan events (open_starts plan events items (Some (At event.ts))) open_now content buffer open_old stands
 
   -- the starts with the new one
   pub starts_among-event : open_now (length events) ≡ true

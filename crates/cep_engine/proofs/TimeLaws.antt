@@ -24,3 +24,7 @@ pub behind_later : (position : ℕ) (last : Option ℤ) (starts : List Start) (t
 behind_later position None starts time behind h = subst (Each (λ s. (s.position < position) × (int_le s.ts time ≡ true))) (sym behind) tt
 behind_later position (Some last) starts time behind h =
     Each-weaker (λ (s : Start). (s.position < position) × (int_le s.ts last ≡ true)) (λ (s : Start). (s.position < position) × (int_le s.ts time ≡ true)) (λ s b. (b.0, no_later s.ts last time b.1 h)) starts behind
+
+pub behind_positions : (position : ℕ) (last : Option ℤ) (starts : List Start) → AreBehind position last starts → Each (λ s. s.position < position) starts
+behind_positions position None starts behind = subst (Each (λ (s : Start). s.position < position)) (sym behind) tt
+behind_positions position (Some last) starts behind = Each-weaker (λ (s : Start). (s.position < position) × (int_le s.ts last ≡ true)) (λ (s : Start). s.position < position) (λ s b. b.0) starts behind

@@ -2,3 +2,6 @@ pub mod Standing
 pub mod State
 pub mod Due
 pub mod Small
+pub mod Reach
+pub mod Running
+pub mod Tips

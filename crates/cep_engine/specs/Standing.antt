@@ -3,6 +3,7 @@ use Rattle.std.specs.Prelude.{ℕ, ℤ, ◌<◌, ◌≡◌, ⊤, Bool, true, Lis
 use Rattle.std.specs.List.{range_with_len, AllByRecursion as Each}
 use Rattle.cep_event.specs.declared.event.Event.{Event}
 use Rattle.cep_event.specs.declared.record.Moment.{Moment}
+use Rattle.cep_event.specs.declared.record.Moment.TheVariants.{At}
 use Rattle.cep_event.specs.Moment.{has_reached}
 use Rattle.cep_plan.specs.declared.plan.Plan.{Plan}
 use Rattle.cep_plan.specs.declared.item.Item.{Item}
@@ -12,10 +13,14 @@ use Rattle.cep_plan.specs.Tick.{Tick, events_of, last_time}
 use Rattle.cep_plan.specs.History.{history, items_at}
 use Rattle.cep_plan.specs.Skipping.{kept, kept_after}
 use Rattle.live_laws.specs.Starts.{open_starts}
+use Rattle.nfa_compile.specs.declared.nfa.Nfa.{Nfa}
+use Rattle.nfa_compile.specs.State.{IsCompilable}
+use Rattle.nfa_compile.specs.Automaton.{automaton_of}
+use Rattle.shared_buffer.specs.Content.{Content as BufferContent}
 use Rattle.run_step.specs.Content.{Content}
-use Rattle.run_step.specs.Runs.{Stands}
 use Rattle.time_limit.specs.declared.limits.Start.{Start}
 use Rattle.time_limit.specs.Limits.{Kept, limited}
+use Rattle.cep_engine.specs.Running.{RunsStand}
 
 -- the kept items of the ticks
 abbrev pub kept_of : Plan → List Tick → List Item
@@ -45,12 +50,26 @@ IsBelow position (Timeout list) = ⊤
 abbrev pub AreBelow : ℕ → List Item → Type 0
 AreBelow position items = Each (IsBelow position) items
 
--- The runs and the limits stand for the ticks: the runs are those of the live lists with an open start, and the limits hold the open starts.
-pub record PartsStand (plan : Plan) (ticks : List Tick) (content : Content) (saved : Kept) : Type 0 where
-  pub runs : Stands plan (events_of ticks) (open_after plan ticks) content
+-- The runs, the buffer and the limits stand for the ticks: the runs are those of the live lists with an open start, the buffer holds their lists alone, and the limits hold the open starts.
+pub record PartsStand (plan : Plan) (ticks : List Tick) (content : Content) (buffer : BufferContent) (saved : Kept) : Type 0 where
+  pub runs : RunsStand plan (events_of ticks) (open_after plan ticks) content buffer
   pub limits : saved ≡ record { within = plan.within; starts = starts_among plan (events_of ticks) (open_after plan ticks) }
   pub below : AreBelow (length (events_of ticks)) (kept_of plan ticks)
 
 -- the moment isn't before that of the last tick
 abbrev pub ComesLater : List Tick → Moment → Type 0
 ComesLater ticks now = IfSome (last_time ticks) (λ earlier. (t : ℤ) → has_reached earlier t ≡ true → has_reached now t ≡ true)
+
+-- the parts stand for some ticks, by a plan of this automaton
+pub record PartsStandSome (nfa : Nfa) (content : Content) (buffer : BufferContent) (saved : Kept) : Type 0 where
+  pub plan : Plan
+  pub ticks : List Tick
+  pub fit : IsCompilable plan
+  pub automaton : nfa ≡ automaton_of plan
+  pub parts : PartsStand plan ticks content buffer saved
+
+-- the parts stand for some ticks, and the event's time isn't before that of the last one
+pub record CanTakeEvent (plan : Plan) (event : Event) (content : Content) (buffer : BufferContent) (saved : Kept) : Type 0 where
+  pub ticks : List Tick
+  pub parts : PartsStand plan ticks content buffer saved
+  pub later : ComesLater ticks (At event.ts)

@@ -5,15 +5,17 @@ use Rattle.cep_event.specs.declared.record.Moment.TheVariants.{At}
 use Rattle.cep_plan.specs.declared.plan.Plan.{Plan}
 use Rattle.cep_plan.specs.declared.item.Item.{Item}
 use Rattle.cep_plan.specs.Tick.{Tick, last_time}
+use Rattle.shared_buffer.specs.Content.{Content as BufferContent}
 use Rattle.run_step.specs.Content.{Content}
 use Rattle.time_limit.specs.declared.limits.Start.{Start}
 use Rattle.time_limit.specs.Limits.{Kept}
 use Rattle.cep_engine.specs.Standing.{PartsStand}
 
--- the plan, the runs, the limits, the time of the last tick, the items not yet handed out, and whether an earlier call met want of memory
+-- the plan, the runs, the buffer, the limits, the time of the last tick, the items not yet handed out, and whether an earlier call met want of memory
 pub record State : Type 0 where
   pub plan : Plan
   pub runs : Content
+  pub buffer : BufferContent
   pub limits : Kept
   pub last : Option ℤ
   pub items : List Item
@@ -21,8 +23,13 @@ pub record State : Type 0 where
 
 -- The engine stands for the ticks.
 pub record StandsFor (ticks : List Tick) (state : State) : Type 0 where
-  pub parts : PartsStand state.plan ticks state.runs state.limits
+  pub parts : PartsStand state.plan ticks state.runs state.buffer state.limits
   pub last : option_map At state.last ≡ last_time ticks
+
+-- The engine stands for some ticks.
+pub record StandsForSome (state : State) : Type 0 where
+  pub ticks : List Tick
+  pub stands : StandsFor ticks state
 
 -- the time isn't below that of the last tick
 abbrev pub IsNotBefore : Option ℤ → ℤ → Type 0

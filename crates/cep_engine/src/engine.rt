@@ -3,6 +3,8 @@ ghost use Rattle.std.specs.Prelude.{Ok, Err};
 ghost use Rattle.cep_event.specs.declared.record.Moment.TheVariants.{At, End};
 ghost use Rattle.cep_plan.specs.Tick.{Tick, event_tick, mark_tick};
 ghost use Rattle.nfa_compile.specs.State.{IsCompilable};
+ghost use Rattle.sharing_laws.specs.Sharing.{SharesExactly, held_in};
+ghost use Rattle.sharing_laws.specs.Sizes.{sizes_after};
 ghost use Rattle.cep_engine.specs.Standing.{kept_at};
 ghost use Rattle.cep_engine.specs.State.{StandsFor, IsNotBefore, HasRoom};
 ghost use Rattle.cep_engine.specs.declared.engine.EngineFault.TheVariants.{Spent};
@@ -13,6 +15,7 @@ use cep_event::{Event, Moment, NoMemory};
 use cep_plan::{ItemList, Plan};
 use nfa_compile::{Nfa, compile};
 use run_step::RunSet;
+use shared_buffer::{Buffer, Held};
 use std::alloc::Global;
 use std::marker::Model;
 use std::mem;
@@ -60,8 +63,10 @@ pub struct Engine {
     alloc: Global,
     plan: Plan,
     // The plan's automaton.
-    nfa: Nfa,
-    runs: RunSet,
+    pub(crate) nfa: Nfa,
+    pub(crate) runs: RunSet,
+    // The events, nodes and edges of the runs' lists.
+    pub(crate) buffer: Buffer,
     limits: Limits,
     // The time of the last tick in milliseconds.
     last: Option<i64>,
@@ -73,7 +78,7 @@ impl Model for Engine {
     ghost use Rattle.std.specs.Prelude.{◌≡◌, false};
     ghost use Rattle.nfa_compile.specs.State.{IsCompilable};
     ghost use Rattle.nfa_compile.specs.Automaton.{automaton_of};
-    ghost use Rattle.cep_engine.specs.State.{State, AreBehind, HasRoom};
+    ghost use Rattle.cep_engine.specs.State.{State, StandsForSome, AreBehind, HasRoom};
     ghost use Rattle.std.specs.Coded.{codes};
     ghost use Rattle.cep_plan.specs.contracts.condition.Expr as expr;
 
@@ -81,9 +86,9 @@ impl Model for Engine {
 
     ghost coded = { Prim.hlevel (codes, expr.the_row.coded) };
 
-    ghost view = { λ e. record { plan = e.plan; runs = e.runs; limits = e.limits; last = e.last; items = e.items; spent = e.spent } };
+    ghost view = { λ e. record { plan = e.plan; runs = e.runs; buffer = e.buffer; limits = e.limits; last = e.last; items = e.items; spent = e.spent } };
 
-    ghost invariant = { λ e. record { plan : IsCompilable e.plan; nfa : e.nfa ≡ automaton_of e.plan; room : HasRoom e.plan; behind : e.spent ≡ false → AreBehind e.runs.position e.last e.limits.starts } };
+    ghost invariant = { λ e. record { plan : IsCompilable e.plan; nfa : e.nfa ≡ automaton_of e.plan; room : HasRoom e.plan; behind : e.spent ≡ false → AreBehind e.runs.position e.last e.limits.starts; stands : e.spent ≡ false → StandsForSome (record { plan = e.plan; runs = e.runs; buffer = e.buffer; limits = e.limits; last = e.last; items = e.items; spent = e.spent }) } };
 }
 
 impl Engine {
@@ -96,15 +101,18 @@ impl Engine {
     {
         let nfa = compile(alloc, &plan)?;
         let runs = RunSet::new(alloc, &nfa)?;
+        let buffer = Buffer::new(alloc);
         let limits = Limits::new(alloc, plan.within);
+        let items = ItemList::new(alloc);
         Ok(Engine {
             alloc,
             plan,
             nfa,
             runs,
+            buffer,
             limits,
             last: None,
-            items: ItemList::new(alloc),
+            items,
             spent: false,
         })
     }
@@ -133,20 +141,33 @@ impl Engine {
         self.runs.position()
     }
 
+    /// How many events, nodes and edges are held: those of the living partial matches, each shared one once. It takes no memory.
+    pub fn held(&self) -> Held
+        ensures counts { result ≡ held_in self.now.buffer }
+        ensures sizes { (ticks : List Tick) → StandsFor ticks self.now → result ≡ sizes_after self.now.plan ticks }
+        ensures shares { (ticks : List Tick) → StandsFor ticks self.now → SharesExactly self.now.plan ticks self.now.runs self.now.buffer }
+    {
+        self.buffer.facts();
+        self.buffer.held()
+    }
+
     /// Takes an event, or wants memory and is spent.
-    fn take_event(&mut self, event: &Event) -> Result<(), NoMemory>
+    fn take_event(&mut self, event: Event) -> Result<(), NoMemory>
         requires fresh { self.old.spent ≡ false }
         requires room { self.old.runs.position < 2 ^ 32 - 1 }
-        requires time { IsNotBefore self.old.last event.now.ts }
+        requires time { IsNotBefore self.old.last event.ts }
         ensures plan { self.new.plan ≡ self.old.plan }
         ensures err { OnErr result ((self.new.spent ≡ true) × (self.new.items ≡ self.old.items)) }
-        ensures ok { OnOk result ((self.new.spent ≡ false) × (self.new.last ≡ Some event.now.ts) × (self.new.runs.position ≡ self.old.runs.position + 1)) }
-        ensures stands { (ticks : List Tick) → StandsFor ticks self.old → IfOk result (λ done. StandsFor (ticks ++ event_tick event.now ∷ []) self.new) }
-        ensures items { (ticks : List Tick) → StandsFor ticks self.old → IfOk result (λ done. self.new.items ≡ self.old.items ++ kept_at self.old.plan ticks (event_tick event.now)) }
+        ensures ok { OnOk result ((self.new.spent ≡ false) × (self.new.last ≡ Some event.ts) × (self.new.runs.position ≡ self.old.runs.position + 1)) }
+        ensures stands { (ticks : List Tick) → StandsFor ticks self.old → IfOk result (λ done. StandsFor (ticks ++ event_tick event ∷ []) self.new) }
+        ensures items { (ticks : List Tick) → StandsFor ticks self.old → IfOk result (λ done. self.new.items ≡ self.old.items ++ kept_at self.old.plan ticks (event_tick event)) }
+        ensures shares { (ticks : List Tick) → StandsFor ticks self.old → IfOk result (λ done. SharesExactly self.old.plan (ticks ++ event_tick event ∷ []) self.new.runs self.new.buffer) }
     {
         self.spent = true;
+        let event_time = event.ts;
         let made = take_event(
             &mut self.runs,
+            &mut self.buffer,
             &mut self.limits,
             &self.nfa,
             &self.plan,
@@ -154,7 +175,8 @@ impl Engine {
             self.alloc,
         )?;
         append(&mut self.items, made)?;
-        self.last = Some(event.ts);
+        self.buffer.facts();
+        self.last = Some(event_time);
         self.spent = false;
         Ok(())
     }
@@ -168,23 +190,26 @@ impl Engine {
         ensures ok { OnOk result ((self.new.spent ≡ false) × (self.new.last ≡ Some time) × (self.new.runs.position ≡ self.old.runs.position)) }
         ensures stands { (ticks : List Tick) → StandsFor ticks self.old → IfOk result (λ done. StandsFor (ticks ++ mark_tick (At time) ∷ []) self.new) }
         ensures items { (ticks : List Tick) → StandsFor ticks self.old → IfOk result (λ done. self.new.items ≡ self.old.items ++ kept_at self.old.plan ticks (mark_tick (At time))) }
+        ensures shares { (ticks : List Tick) → StandsFor ticks self.old → IfOk result (λ done. SharesExactly self.old.plan (ticks ++ mark_tick (At time) ∷ []) self.new.runs self.new.buffer) }
     {
         self.spent = true;
         let now = Moment::At(time);
         let made = take_mark(
             &mut self.runs,
+            &mut self.buffer,
             &mut self.limits,
-            &self.plan,
+            &self.nfa,
             now,
             self.alloc,
         )?;
         append(&mut self.items, made)?;
+        self.buffer.facts();
         self.last = Some(time);
         self.spent = false;
         Ok(())
     }
 
-    /// Takes an event tick. The event's time isn't below that of the last tick, and fewer than 2^32 - 1 events came before.
+    /// Takes an event tick. The event's time isn't below that of the last tick, and fewer than 2^32 - 1 events came before. After it the runs and what is held are exactly those of the living partial matches.
     /// The items not yet handed out grow by the kept items of the tick. `NoMemory` adds none, and from then on the engine is spent.
     pub fn event(&mut self, event: Event) -> Result<(), EngineFault>
         requires room { self.old.spent ≡ false → self.old.runs.position < 2 ^ 32 - 1 }
@@ -196,11 +221,12 @@ impl Engine {
         ensures ok { OnOk result ((self.new.spent ≡ false) × (self.new.last ≡ Some event.ts) × (self.new.runs.position ≡ self.old.runs.position + 1)) }
         ensures stands { (ticks : List Tick) → StandsFor ticks self.old → IfOk result (λ done. StandsFor (ticks ++ event_tick event ∷ []) self.new) }
         ensures items { (ticks : List Tick) → StandsFor ticks self.old → IfOk result (λ done. self.new.items ≡ self.old.items ++ kept_at self.old.plan ticks (event_tick event)) }
+        ensures shares { (ticks : List Tick) → StandsFor ticks self.old → IfOk result (λ done. SharesExactly self.old.plan (ticks ++ event_tick event ∷ []) self.new.runs self.new.buffer) }
     {
         if self.spent {
             return Err(EngineFault::Spent);
         }
-        match self.take_event(&event) {
+        match self.take_event(event) {
             Ok(()) => Ok(()),
             Err(NoMemory) => Err(EngineFault::NoMemory),
         }
@@ -217,6 +243,7 @@ impl Engine {
         ensures ok { OnOk result ((self.new.spent ≡ false) × (self.new.last ≡ Some time) × (self.new.runs.position ≡ self.old.runs.position)) }
         ensures stands { (ticks : List Tick) → StandsFor ticks self.old → IfOk result (λ done. StandsFor (ticks ++ mark_tick (At time) ∷ []) self.new) }
         ensures items { (ticks : List Tick) → StandsFor ticks self.old → IfOk result (λ done. self.new.items ≡ self.old.items ++ kept_at self.old.plan ticks (mark_tick (At time))) }
+        ensures shares { (ticks : List Tick) → StandsFor ticks self.old → IfOk result (λ done. SharesExactly self.old.plan (ticks ++ mark_tick (At time) ∷ []) self.new.runs self.new.buffer) }
     {
         if self.spent {
             return Err(EngineFault::Spent);
@@ -275,8 +302,9 @@ impl Engine {
         engine.spent = true;
         let made = take_mark(
             &mut engine.runs,
+            &mut engine.buffer,
             &mut engine.limits,
-            &engine.plan,
+            &engine.nfa,
             Moment::End,
             engine.alloc,
         )?;

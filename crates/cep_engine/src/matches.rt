@@ -4,74 +4,67 @@ ghost use Rattle.std.specs.List.{list_any, AllByRecursion as Each};
 ghost use Rattle.cep_event.specs.declared.event.Event.{Event};
 ghost use Rattle.cep_plan.specs.declared.plan.Plan.{Plan};
 ghost use Rattle.cep_plan.specs.declared.item.Item.TheVariants.{Match, Timeout};
-ghost use Rattle.cep_plan.specs.Skipping.{kills, is_killed, kept};
+ghost use Rattle.cep_plan.specs.Skipping.{kept};
 ghost use Rattle.live_laws.specs.Starts.{item_kills_start};
-ghost use Rattle.run_step.specs.Runs.{Stands};
 ghost use Rattle.skip_strategy.specs.Range.{is_in};
 ghost use Rattle.cep_engine.specs.Small.{AreSmall};
+ghost use Rattle.cep_engine.specs.Running.{RunsStand, RunsStandSome};
+ghost use Rattle.cep_engine.specs.Reach.{AreInStartOrder, farther, starts_below};
 
 use cep_event::NoMemory;
 use cep_plan::{Item, ItemList, Skip, TakenList};
-use run_step::{RunSet, TakenLists, kill};
+use run_judge::TakenLists;
+use run_step::{RunSet, kill};
+use shared_buffer::Buffer;
 use skip_strategy::cut;
 use time_limit::Limits;
 
-/// Whether the position is in the range.
-pub fn holds(range: Option<(u32, u32)>, position: u32) -> bool
-    ensures { result ≡ is_in range position }
+/// Up to where starts are killed, with one more range of them.
+pub fn farther(reach: u32, range: Option<(u32, u32)>) -> u32
+    ensures { result ≡ farther reach range }
 {
     match range {
-        None => false,
-        Some((from, to)) => from <= position && position < to,
+        None => reach,
+        Some((_, to)) => { if reach < to { to } else { reach } }
     }
 }
 
-/// Whether the match kills the list.
-#[tactic(auto, unfolding(cep_plan::specs::Skipping::kills))]
-pub fn kills_list(skip: Skip, found: &TakenList, list: &TakenList) -> bool
-    ensures { Each (λ t. t.position < 2 ^ 32 - 1) found.now → result ≡ kills skip found.now list.now }
+/// Whether the list starts below the position.
+pub fn starts_below(list: &TakenList, reach: u32) -> bool
+    ensures { result ≡ starts_below reach list.now }
 {
     match list.get(0) {
         None => false,
-        Some(first) => holds(cut(skip, found), first.position),
+        Some(first) => first.position < reach,
     }
 }
 
-/// Whether one of the kept matches kills the list.
-pub fn is_killed_by(skip: Skip, found: &TakenLists, list: &TakenList) -> bool
-    ensures { AreSmall found.now → result ≡ is_killed skip (map Match found.now) list.now }
-{
-    for other in found.as_slice() {
-        if kills_list(skip, other, list) {
-            return true;
-        }
-    }
-    false
-}
-
-/// The matches that no kept one before them kills, in order.
+/// The matches that no kept one before them kills, in order. They come in order of their starts, and each kills from its own start on: so one position tells which of the later starts are killed.
 #[tactic(auto, unfolding(cep_plan::specs::Skipping::kept))]
 pub fn kept_matches(skip: Skip, lists: TakenLists) -> Result<TakenLists, NoMemory>
-    ensures chosen { AreSmall lists → IfOk result (λ made. map Match made ≡ kept skip (map Match lists)) }
+    ensures chosen { AreSmall lists → AreInStartOrder lists → IfOk result (λ made. map Match made ≡ kept skip (map Match lists)) }
     ensures small { AreSmall lists → IfOk result (λ made. AreSmall made) }
 {
     let mut found = lists.emptied();
+    let mut reach = 0;
     for list in lists.into_vec() {
-        if !is_killed_by(skip, &found, &list) {
+        if !starts_below(&list, reach) {
+            reach = farther(reach, cut(skip, &list));
             found.push(list)?;
         }
     }
     Ok(found)
 }
 
-/// Lets the runs go that start in the range. It takes no memory.
-pub fn kill_range(runs: &mut RunSet, range: Option<(u32, u32)>)
-    ensures runs { (plan : Plan) (events : List Event) (starts : ℕ → Bool) → Stands plan events starts runs.old → Stands plan events (λ p. starts p && not (is_in range p)) runs.new }
+/// Lets the runs go that start in the range, and what the buffer held for them. It takes no memory.
+pub fn kill_range(runs: &mut RunSet, buffer: &mut Buffer, range: Option<(u32, u32)>)
+    requires { RunsStandSome runs.old buffer.old }
+    ensures runs { (plan : Plan) (events : List Event) (starts : ℕ → Bool) → RunsStand plan events starts runs.old buffer.old → RunsStand plan events (λ p. starts p && not (is_in range p)) runs.new buffer.new }
     ensures position { runs.new.position ≡ runs.old.position }
 {
     match range {
         None => {}
-        Some((from, to)) => kill(runs, from, to),
+        Some((from, to)) => kill(runs, buffer, from, to),
     }
 }
 
@@ -85,13 +78,14 @@ pub fn drop_starts(limits: &mut Limits, range: Option<(u32, u32)>)
     }
 }
 
-/// Lets the runs go that the matches kill. It takes no memory.
-pub fn kill_runs(runs: &mut RunSet, skip: Skip, found: &TakenLists)
-    ensures runs { AreSmall found.now → (plan : Plan) (events : List Event) (starts : ℕ → Bool) → Stands plan events starts runs.old → Stands plan events (λ p. starts p && not (list_any (item_kills_start skip p) (map Match found.now))) runs.new }
+/// Lets the runs go that the matches kill, and what the buffer held for them. It takes no memory.
+pub fn kill_runs(runs: &mut RunSet, buffer: &mut Buffer, skip: Skip, found: &TakenLists)
+    requires { RunsStandSome runs.old buffer.old }
+    ensures runs { AreSmall found.now → (plan : Plan) (events : List Event) (starts : ℕ → Bool) → RunsStand plan events starts runs.old buffer.old → RunsStand plan events (λ p. starts p && not (list_any (item_kills_start skip p) (map Match found.now))) runs.new buffer.new }
     ensures position { runs.new.position ≡ runs.old.position }
 {
     for list in found.as_slice() {
-        kill_range(runs, cut(skip, list));
+        kill_range(runs, buffer, cut(skip, list));
     }
 }
 

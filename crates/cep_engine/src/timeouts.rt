@@ -6,13 +6,19 @@ ghost use Rattle.cep_plan.specs.declared.plan.Plan.{Plan};
 ghost use Rattle.cep_plan.specs.declared.item.Item.TheVariants.{Match, Timeout};
 ghost use Rattle.cep_plan.specs.Entry.{taken_of};
 ghost use Rattle.live_laws.specs.Starts.{waiting_at};
-ghost use Rattle.run_step.specs.Runs.{Stands};
+ghost use Rattle.nfa_compile.specs.State.{IsCompilable};
+ghost use Rattle.nfa_compile.specs.Automaton.{automaton_of};
 ghost use Rattle.time_limit.specs.Limits.{is_over};
 ghost use Rattle.cep_engine.specs.Due.{due_among, left_among};
+ghost use Rattle.cep_engine.specs.Running.{RunsStand, RunsStandSome, CanShowAll};
 
+use crate::advance::waiting_lists;
 use cep_event::{Moment, NoMemory, Sequence};
-use cep_plan::{Item, ItemList, Plan};
-use run_step::{RunSet, TakenLists, kill, waiting};
+use cep_plan::{Item, ItemList};
+use nfa_compile::Nfa;
+use run_judge::TakenLists;
+use run_step::{RunSet, kill};
+use shared_buffer::Buffer;
 use std::alloc::Global;
 use time_limit::Limits;
 
@@ -43,46 +49,51 @@ pub fn add_timeouts(items: &mut ItemList, lists: TakenLists) -> Result<(), NoMem
 /// The lists that wait from the starts, as timeouts, start by start.
 pub fn timeouts(
     runs: &RunSet,
-    plan: &Plan,
+    buffer: &Buffer,
+    nfa: &Nfa,
     due: &PositionList,
     alloc: Global,
 ) -> Result<ItemList, NoMemory>
-    ensures { (events : List Event) (starts : ℕ → Bool) → Each (λ s. starts s ≡ true) due.now → Stands plan.now events starts runs.now → IfOk result (λ items. items ≡ map (λ list. Timeout (taken_of events list)) (flat_map (waiting_at plan.now events) due.now)) }
+    requires { CanShowAll nfa.now due.now runs.now buffer.now }
+    ensures { (plan : Plan) (events : List Event) (starts : ℕ → Bool) → IsCompilable plan → nfa.now ≡ automaton_of plan → Each (λ s. starts s ≡ true) due.now → RunsStand plan events starts runs.now buffer.now → IfOk result (λ items. items ≡ map (λ list. Timeout (taken_of events list)) (flat_map (waiting_at plan events) due.now)) }
 {
     let mut items = ItemList::new(alloc);
     for start in due.as_slice() {
-        add_timeouts(&mut items, waiting(runs, plan, *start)?)?;
+        add_timeouts(&mut items, waiting_lists(runs, buffer, nfa, *start, alloc)?)?;
     }
     Ok(items)
 }
 
-/// Lets the runs from these starts go. It takes no memory.
-pub fn kill_starts(runs: &mut RunSet, due: &PositionList)
-    requires { Each (λ s. s < 2 ^ 32 - 1) due.now }
-    ensures runs { (plan : Plan) (events : List Event) (starts : ℕ → Bool) → Stands plan events starts runs.old → Stands plan events (λ p. starts p && not (list_any (λ s. s == p) due.now)) runs.new }
+/// Lets the runs from these starts go, and what the buffer held for them. It takes no memory.
+pub fn kill_starts(runs: &mut RunSet, buffer: &mut Buffer, due: &PositionList)
+    requires small { Each (λ s. s < 2 ^ 32 - 1) due.now }
+    requires stands { RunsStandSome runs.old buffer.old }
+    ensures runs { (plan : Plan) (events : List Event) (starts : ℕ → Bool) → RunsStand plan events starts runs.old buffer.old → RunsStand plan events (λ p. starts p && not (list_any (λ s. s == p) due.now)) runs.new buffer.new }
     ensures position { runs.new.position ≡ runs.old.position }
 {
     for start in due.as_slice() {
-        kill(runs, *start, *start + 1);
+        kill(runs, buffer, *start, *start + 1);
     }
 }
 
 /// Takes out the starts that are due at the moment, lets their runs go, and tells the lists that waited there.
 pub fn time_out(
     runs: &mut RunSet,
+    buffer: &mut Buffer,
     limits: &mut Limits,
-    plan: &Plan,
+    nfa: &Nfa,
     now: Moment,
     alloc: Global,
 ) -> Result<ItemList, NoMemory>
-    requires { Each (λ s. s.position < 2 ^ 32 - 1) limits.old.starts }
-    ensures items { (events : List Event) (starts : ℕ → Bool) → Each (λ s. starts s.position ≡ true) limits.old.starts → Stands plan.now events starts runs.old → IfOk result (λ items. items ≡ map (λ list. Timeout (taken_of events list)) (flat_map (waiting_at plan.now events) (due_among limits.old.within now limits.old.starts))) }
-    ensures runs { (events : List Event) (starts : ℕ → Bool) → Stands plan.now events starts runs.old → IfOk result (λ items. Stands plan.now events (λ p. starts p && not (list_any (λ s. s == p) (due_among limits.old.within now limits.old.starts))) runs.new) }
+    requires small { Each (λ s. s.position < 2 ^ 32 - 1) limits.old.starts }
+    requires open { CanShowAll nfa.now (map (λ s. s.position) limits.old.starts) runs.old buffer.old }
+    ensures items { (plan : Plan) (events : List Event) (starts : ℕ → Bool) → IsCompilable plan → nfa.now ≡ automaton_of plan → Each (λ s. starts s.position ≡ true) limits.old.starts → RunsStand plan events starts runs.old buffer.old → IfOk result (λ items. items ≡ map (λ list. Timeout (taken_of events list)) (flat_map (waiting_at plan events) (due_among limits.old.within now limits.old.starts))) }
+    ensures runs { (plan : Plan) (events : List Event) (starts : ℕ → Bool) → RunsStand plan events starts runs.old buffer.old → IfOk result (λ items. RunsStand plan events (λ p. starts p && not (list_any (λ s. s == p) (due_among limits.old.within now limits.old.starts))) runs.new buffer.new) }
     ensures limits { IfOk result (λ items. limits.new ≡ record limits.old { starts = left_among limits.old.within now limits.old.starts }) }
     ensures position { IfOk result (λ items. runs.new.position ≡ runs.old.position) }
 {
     let due = due_starts(limits, now, alloc)?;
-    let items = timeouts(runs, plan, &due, alloc)?;
-    kill_starts(runs, &due);
+    let items = timeouts(runs, buffer, nfa, &due, alloc)?;
+    kill_starts(runs, buffer, &due);
     Ok(items)
 }

@@ -8,8 +8,6 @@ mod sink;
 mod source;
 mod standard;
 mod stored;
-#[cfg(test)]
-mod tests;
 mod writes;
 
 pub use files::{Files, FilesFault};

@@ -5,8 +5,6 @@ mod condition;
 mod item;
 mod matched;
 mod plan;
-#[cfg(test)]
-mod tests;
 
 pub use condition::{Agg, Cmp, Cond, Expr, ExprList, Factor, How, Join, Part, PartList, Term, Val};
 pub use item::{Item, ItemList, Taken, TakenList, before};

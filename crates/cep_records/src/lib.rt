@@ -5,8 +5,6 @@ mod bare;
 mod cause;
 mod number;
 mod reading;
-#[cfg(test)]
-mod tests;
 mod values;
 
 pub use cause::RowFault;

@@ -5,8 +5,6 @@ mod cause;
 mod laws;
 mod line;
 mod lines;
-#[cfg(test)]
-mod tests;
 
 pub use cause::RowCause;
 pub use laws::lines_from_the_front;

@@ -8,4 +8,4 @@ mod selected;
 #[cfg(test)]
 mod tests;
 
-pub use row::{late_row, row_of, rows_of};
+pub use row::{late_row, push_item, row_of, rows_of};

@@ -52,7 +52,8 @@ fn push_timeout(text: &mut ByteList, plan: &Plan, list: &TakenList) -> Result<()
     Ok(())
 }
 
-fn push_item(text: &mut ByteList, plan: &Plan, item: &Item) -> Result<(), NoMemory>
+/// Adds the row of a match or a timeout, as `row_of` gives it, behind a text. Where memory is wanted a part of the row may stand there.
+pub fn push_item(text: &mut ByteList, plan: &Plan, item: &Item) -> Result<(), NoMemory>
     requires stages { length plan.now.stages ≤ 65536 }
     requires short { IsShort item.now }
     ensures { OnOk result (text.new ≡ text.old ++ row_of plan.now item.now) }

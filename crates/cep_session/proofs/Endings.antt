@@ -45,6 +45,11 @@ module _ (m : Meaning) (allowed : ℕ) where
   all_lines lines kept all rest cut is =
       ap raw_lines (is ∙ append_assoc (joined lines) kept rest) ∙ raw_lines-joined lines (kept ++ rest) cut
 
+  -- want of memory and a failed write leave a front of what is owed
+  outcome_of : (status : Status) (all taken text : List ℕ) → (status ≡ WriteFault) ⊎ (status ≡ NoMemory) → IsOwed m allowed all taken text → Outcome m allowed status all taken text
+  outcome_of status all taken text (inl is) owed = subst (λ (s : Status). Outcome m allowed s all taken text) (sym is) owed
+  outcome_of status all taken text (inr is) owed = subst (λ (s : Status). Outcome m allowed s all taken text) (sym is) owed
+
   module _ (start left base taken : Option (List ℕ)) (lines : List (List ℕ)) (kept : List ℕ) (so_far : Progress m allowed start left base taken lines kept) where
     -- the next line is refused
     pub ends_refused : (cause : RowCause) → length lines < allowed
@@ -91,9 +96,9 @@ module _ (m : Meaning) (allowed : ℕ) where
     ends_unstored = ended _ _ _ _ _ _ _ so_far.took so_far.wrote (λ all rest left_is is. owed_so_far all)
 
     -- a front of the next line's text was written
-    pub ends_unwritten : (line more : List ℕ) (now : Option (List ℕ)) → kept ≡ line ++ 10 ∷ more → HasNoFeed line → line_refusal m lines line ≡ None → length lines < allowed
-        → AppendsPart taken now (m.caused lines line) → Ends m allowed WriteFault start left base now
-    ends_unwritten line more now kept_is none sound few part =
+    pub ends_unwritten : (status : Status) → (status ≡ WriteFault) ⊎ (status ≡ NoMemory) → (line more : List ℕ) (now : Option (List ℕ)) → kept ≡ line ++ 10 ∷ more → HasNoFeed line → line_refusal m lines line ≡ None → length lines < allowed
+        → AppendsPart taken now (m.caused lines line) → Ends m allowed status start left base now
+    ends_unwritten status which line more now kept_is none sound few part =
         ended _ _ _ _ _ _ _ so_far.took (Appends-trans _ _ _ _ _ so_far.wrote part.appends) (λ all rest left_is is.
         let whole_is : whole_lines (joined lines ++ kept) ≡ lines ++ line ∷ whole_lines more =
         whole_lines-joined lines kept so_far.cut ∙ ap (λ (k : List ℕ). lines ++ whole_lines k) kept_is ∙ ap (λ (ls : List (List ℕ)). lines ++ ls) (whole_lines-line line more none) in
@@ -101,14 +106,15 @@ module _ (m : Meaning) (allowed : ℕ) where
         let later = sound_front m (lines ++ line ∷ []) front.0 in
         let sound_lines : sound_front m [] (take allowed (whole_lines (joined lines ++ kept))) ≡ lines ++ line ∷ later =
         ap (λ (ls : List (List ℕ)). sound_front m [] (take allowed ls)) whole_is ∙ ap (sound_front m []) front.1 ∙ sound_front-at m lines so_far.sound line front.0 sound in
-        inl (
+        outcome_of status all (joined lines ++ kept) (sofar m lines ++ part.front) which
+        (inl (
           part.back ++ sofar_from m (lines ++ line ∷ []) later,
           ap (sofar m) sound_lines
               ∙ sofar_from-append m [] lines (line ∷ later)
               ∙ ap (λ (l : List ℕ). sofar m lines ++ (l ++ sofar_from m (lines ++ line ∷ []) later)) part.is
               ∙ ap (λ (l : List ℕ). sofar m lines ++ l) (append_assoc part.front part.back (sofar_from m (lines ++ line ∷ []) later))
               ∙ sym (append_assoc (sofar m lines) part.front (part.back ++ sofar_from m (lines ++ line ∷ []) later)),
-        ))
+        )))
 
     -- the input is at its end, and nothing is kept
     pub all_taken : IsAtEnd left → kept ≡ [] → AllTaken m allowed start left base taken lines
@@ -138,9 +144,9 @@ module _ (m : Meaning) (allowed : ℕ) where
         }
 
     -- a front of the last line's text was written
-    pub ends_unwritten_last : (now : Option (List ℕ)) (b : ℕ) (more : List ℕ) → IsAtEnd left → kept ≡ b ∷ more → HasNoFeed kept → line_refusal m lines kept ≡ None → length lines < allowed
-        → AppendsPart taken now (m.caused lines kept) → Ends m allowed WriteFault start left base now
-    ends_unwritten_last now b more over kept_is none sound few part =
+    pub ends_unwritten_last : (status : Status) → (status ≡ WriteFault) ⊎ (status ≡ NoMemory) → (now : Option (List ℕ)) (b : ℕ) (more : List ℕ) → IsAtEnd left → kept ≡ b ∷ more → HasNoFeed kept → line_refusal m lines kept ≡ None → length lines < allowed
+        → AppendsPart taken now (m.caused lines kept) → Ends m allowed status start left base now
+    ends_unwritten_last status which now b more over kept_is none sound few part =
         ended _ _ _ _ _ _ _ so_far.took (Appends-trans _ _ _ _ _ so_far.wrote part.appends) (λ all rest left_is is.
         let empty : rest ≡ [] = subst IsAtEnd left_is over in
         let whole_is : joined lines ++ kept ≡ all = sym (is ∙ ap (λ (l : List ℕ). (joined lines ++ kept) ++ l) empty ∙ append-nil (joined lines ++ kept)) in
@@ -149,7 +155,8 @@ module _ (m : Meaning) (allowed : ℕ) where
         let sound_all = sound-push m lines so_far.sound kept sound in
         let done = verdict-done m allowed (lines ++ kept ∷ []) sound_all (omega (arith, length-append lines (kept ∷ []), few)) in
         let owed = m.owed (lines ++ kept ∷ []) in
-        inr (
+        outcome_of status all (joined lines ++ kept) (sofar m lines ++ part.front) which
+        (inr (
           whole_is,
           ap (verdict m allowed) are ∙ done,
           (
@@ -158,7 +165,7 @@ module _ (m : Meaning) (allowed : ℕ) where
                 ∙ ap (λ (l : List ℕ). l ++ owed) (sofar-push m lines kept ∙ ap (λ (l : List ℕ). sofar m lines ++ l) part.is ∙ sym (append_assoc (sofar m lines) part.front part.back))
                 ∙ append_assoc (sofar m lines ++ part.front) part.back owed,
           ),
-        ))
+        )))
 
   module _ (start left base taken : Option (List ℕ)) (lines : List (List ℕ)) (over : AllTaken m allowed start left base taken lines) where
     -- all bytes were taken
@@ -188,11 +195,7 @@ module _ (m : Meaning) (allowed : ℕ) where
         let facts = done all whole_is in
         let owed : IsOwed m allowed all over.bytes (sofar m lines ++ part.front) =
         inr (whole_is, facts.1, (part.back, ap (whole m) facts.0 ∙ ap (λ (l : List ℕ). sofar m lines ++ l) part.is ∙ sym (append_assoc (sofar m lines) part.front part.back))) in
-        outcome_of status all (sofar m lines ++ part.front) which owed)
-      where
-        outcome_of : (status : Status) (all text : List ℕ) → (status ≡ WriteFault) ⊎ (status ≡ NoMemory) → IsOwed m allowed all over.bytes text → Outcome m allowed status all over.bytes text
-        outcome_of status all text (inl is) owed = subst (λ (s : Status). Outcome m allowed s all over.bytes text) (sym is) owed
-        outcome_of status all text (inr is) owed = subst (λ (s : Status). Outcome m allowed s all over.bytes text) (sym is) owed
+        outcome_of status all over.bytes (sofar m lines ++ part.front) which owed)
 
 -- where no count of faults rose and there was memory, the answer is the verdict
 pub complete : (m : Meaning) (allowed : ℕ) (end : Ending) (all before : List ℕ) (left taken : Option (List ℕ)) (read write : Type 0)

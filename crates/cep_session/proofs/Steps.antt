@@ -1,5 +1,5 @@
 -- How a session goes on by one line.
-use Rattle.std.proofs.Common.{inl, inr, ◌≡◌, ◌≢◌, ◌↔◌, ℕ, ◌+◌, ◌<◌, ◌≤◌, Bool, true, false, IsTrue, if◌then◌else◌, List, [], ◌∷◌, ◌++◌, length, take, Option, Some, None, Ok, Err, refl, sym, ◌∙◌, ap, subst, arith, append_assoc, length-append}
+use Rattle.std.proofs.Common.{inl, inr, ◌⊎◌, ◌≡◌, ◌≢◌, ◌↔◌, ℕ, ◌+◌, ◌<◌, ◌≤◌, Bool, true, false, IsTrue, if◌then◌else◌, List, [], ◌∷◌, ◌++◌, length, take, Option, Some, None, Ok, Err, refl, sym, ◌∙◌, ap, subst, arith, append_assoc, length-append}
 use Rattle.std.specs.Prelude.{nat_lt}
 use Rattle.std.proofs.lemmas.List.{append-nil, take-append-le}
 use Rattle.std.proofs.lemmas.Bool.Decides.{nat_tests}
@@ -11,6 +11,7 @@ use Rattle.cep_rows.specs.Lines.{raw_lines, joined, Gives}
 use Rattle.cep_rows.specs.declared.line.Next.TheVariants.{Line}
 use Rattle.cep_rows.proofs.Cuts.{raw_lines-line, raw_lines-rest, joined-push, AreLines-push, first_line}
 use Rattle.cep_session.specs.Ending.{status_of}
+use Rattle.cep_session.specs.Handling.{IsPartWritten}
 use Rattle.cep_session.specs.Meaning.{Meaning, line_refusal}
 use Rattle.cep_session.specs.Progress.{Ends}
 use Rattle.cep_session.specs.Rows.{Stands, IsTaken, IsFinished}
@@ -90,7 +91,9 @@ module _ {H : Type 0} (stands : H → Meaning → List (List ℕ) → Type 0) (m
     line_stops stands_now later ending.Done is = absurd is
     line_stops stands_now later ending.TooManyRows is = absurd is
     line_stops stands_now later ending.ReadFault is = absurd is
-    line_stops stands_now later ending.NoMemory is = subst (Stops NoMemory) (sym is) stops_no_memory
+    line_stops stands_now later ending.NoMemory (inl is) = subst (Stops NoMemory) (sym is) stops_no_memory
+    line_stops stands_now later ending.NoMemory (inr is) =
+        ends_unwritten m session.rows.allowed start left base taken going.handled session.lines going.progress NoMemory (inr refl) line now later gives.0 gives.1 (by_meaning ∙ is.0) few is.1
     line_stops stands_now later (ending.BadRow row cause) is =
         let next : (rest : List ℕ) → left ≡ Some rest → (first : List ℕ) × (others : List (List ℕ)) × (raw_lines (session.lines ++ rest) ≡ first ∷ others) × (line_refusal m going.handled first ≡ Some cause) =
         λ rest left_is. (
@@ -103,7 +106,7 @@ module _ {H : Type 0} (stands : H → Meaning → List (List ℕ) → Type 0) (m
         let at_row = subst (λ (n : ℕ). Stops (BadRow n cause) taken) (sym is.0) at_length in
         subst (Stops (BadRow row cause)) (sym is.2) at_row
     line_stops stands_now later ending.WriteFault is =
-        ends_unwritten m session.rows.allowed start left base taken going.handled session.lines going.progress line now later gives.0 gives.1 (by_meaning ∙ is.0) few is.1
+        ends_unwritten m session.rows.allowed start left base taken going.handled session.lines going.progress WriteFault (inl refl) line now later gives.0 gives.1 (by_meaning ∙ is.0) few is.1
 
     -- its text was written
     pub line_goes : (rows : Rows H) (later : Option (List ℕ)) → rows.allowed ≡ session.rows.allowed
@@ -204,14 +207,22 @@ module _ {H : Type 0} (stands : H → Meaning → List (List ℕ) → Type 0) (m
                 (subst (λ (l : List ℕ). Appends taken later (m.caused going.handled l)) line_is is.2);
           }
 
+      -- a front of its text was written
+      last_unwritten : (status : Status) → (status ≡ WriteFault) ⊎ (status ≡ NoMemory) → (later : Option (List ℕ)) → IsPartWritten m going.handled line taken later → Ends m session.rows.allowed status start left base later
+      last_unwritten status which later is =
+          let first = some_byte session.lines some in
+          ends_unwritten_last m session.rows.allowed start left base taken going.handled session.lines going.progress status which later first.0 first.1 over first.2 waits.open_line (last_by_meaning ∙ is.0) last_few
+          (subst (λ (l : List ℕ). AppendsPart taken later (m.caused going.handled l)) line_is is.1)
+
       -- or it was refused, or its text wasn't written
       pub last_stops : (stands_now : List (List ℕ) → Type 0) (later : Option (List ℕ)) (end : Ending) → IsTaken m going.handled line stands_now taken later (Err end)
           → Ends m session.rows.allowed (status_of end) start left base later
       last_stops stands_now later ending.Done is = absurd is
       last_stops stands_now later ending.TooManyRows is = absurd is
       last_stops stands_now later ending.ReadFault is = absurd is
-      last_stops stands_now later ending.NoMemory is =
+      last_stops stands_now later ending.NoMemory (inl is) =
           subst (λ (t : Option (List ℕ)). Ends m session.rows.allowed NoMemory start left base t) (sym is) (stops_no_memory stands m start left base taken session going)
+      last_stops stands_now later ending.NoMemory (inr is) = last_unwritten NoMemory (inr refl) later is
       last_stops stands_now later (ending.BadRow row cause) is =
           let first = some_byte session.lines some in
           let at_end : (rest : List ℕ) → left ≡ Some rest → session.lines ++ rest ≡ session.lines =
@@ -221,20 +232,14 @@ module _ {H : Type 0} (stands : H → Meaning → List (List ℕ) → Type 0) (m
           let at_length = ends_refused m session.rows.allowed start left base taken going.handled session.lines going.progress cause last_few next in
           let at_row = subst (λ (n : ℕ). Ends m session.rows.allowed (BadRow n cause) start left base taken) (sym is.0) at_length in
           subst (λ (t : Option (List ℕ)). Ends m session.rows.allowed (BadRow row cause) start left base t) (sym is.2) at_row
-      last_stops stands_now later ending.WriteFault is =
-          let first = some_byte session.lines some in
-          ends_unwritten_last m session.rows.allowed start left base taken going.handled session.lines going.progress later first.0 first.1 over first.2 waits.open_line (last_by_meaning ∙ is.0) last_few
-          (subst (λ (l : List ℕ). AppendsPart taken later (m.caused going.handled l)) line_is is.1)
+      last_stops stands_now later ending.WriteFault is = last_unwritten WriteFault (inl refl) later is
 
   -- what is owed at the end was written, or a front of it
   pub finished : (allowed : ℕ) (start left base taken later : Option (List ℕ)) (rows : Rows H) (end : Ending) (all : AllHandled stands m allowed start left base taken rows)
       → IsFinished m all.handled taken later end → Ends m allowed (status_of end) start left base later
   finished allowed start left base taken later rows ending.Done all is = ends_done m allowed start left base taken all.handled all.over later is
   finished allowed start left base taken later rows ending.WriteFault all is = ends_undone m allowed start left base taken all.handled all.over WriteFault later (inl refl) is
-  finished allowed start left base taken later rows ending.NoMemory all is =
-      let none : AppendsPart taken taken (m.owed all.handled) = record { front = []; back = m.owed all.handled; is = refl; appends = Appends-nil taken } in
-      subst (λ (t : Option (List ℕ)). Ends m allowed NoMemory start left base t) (sym is)
-      (ends_undone m allowed start left base taken all.handled all.over NoMemory taken (inr refl) none)
+  finished allowed start left base taken later rows ending.NoMemory all is = ends_undone m allowed start left base taken all.handled all.over NoMemory later (inr refl) is
   finished allowed start left base taken later rows (ending.BadRow row cause) all is = absurd is
   finished allowed start left base taken later rows ending.TooManyRows all is = absurd is
   finished allowed start left base taken later rows ending.ReadFault all is = absurd is

@@ -1,7 +1,8 @@
 -- What the rows that were handled leave.
-use Rattle.std.specs.Prelude.{◌≡◌, ℕ, ◌+◌, List, [], ◌∷◌, ◌++◌, length, Option, Some, None, Result, Ok, Err}
+use Rattle.std.specs.Prelude.{◌≡◌, ◌⊎◌, ℕ, ◌+◌, List, [], ◌∷◌, ◌++◌, length, Option, Some, None, Result, Ok, Err}
 use Rattle.std.specs.Io.KnownBytes.{Appends}
 use Rattle.cep_outside.specs.Outside.{AppendsPart}
+use Rattle.cep_session.specs.Handling.{IsPartWritten}
 use Rattle.cep_session.specs.Meaning.{Meaning}
 use Rattle.cep_session.specs.declared.rows.Rows.{Rows}
 use Rattle.cep_session.specs.declared.ending.Ending.{Ending}
@@ -18,8 +19,8 @@ IsTaken m lines line stands_now before now (Ok done) =
     (m.refusal lines line ≡ None) × stands_now (lines ++ line ∷ []) × Appends before now (m.caused lines line)
 IsTaken m lines line stands_now before now (Err (BadRow row cause)) =
     (row ≡ length lines + 1) × (m.refusal lines line ≡ Some cause) × (now ≡ before)
-IsTaken m lines line stands_now before now (Err WriteFault) = (m.refusal lines line ≡ None) × AppendsPart before now (m.caused lines line)
-IsTaken m lines line stands_now before now (Err NoMemory) = now ≡ before
+IsTaken m lines line stands_now before now (Err WriteFault) = IsPartWritten m lines line before now
+IsTaken m lines line stands_now before now (Err NoMemory) = (now ≡ before) ⊎ IsPartWritten m lines line before now
 IsTaken m lines line stands_now before now (Err Done) = ⊥
 IsTaken m lines line stands_now before now (Err TooManyRows) = ⊥
 IsTaken m lines line stands_now before now (Err ReadFault) = ⊥
@@ -28,7 +29,7 @@ IsTaken m lines line stands_now before now (Err ReadFault) = ⊥
 abbrev pub IsFinished : Meaning → List (List ℕ) → Option (List ℕ) → Option (List ℕ) → Ending → Type 0
 IsFinished m lines before now Done = Appends before now (m.owed lines)
 IsFinished m lines before now WriteFault = AppendsPart before now (m.owed lines)
-IsFinished m lines before now NoMemory = now ≡ before
+IsFinished m lines before now NoMemory = AppendsPart before now (m.owed lines)
 IsFinished m lines before now (BadRow row cause) = ⊥
 IsFinished m lines before now TooManyRows = ⊥
 IsFinished m lines before now ReadFault = ⊥

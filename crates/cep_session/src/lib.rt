@@ -8,12 +8,10 @@ mod rows;
 mod session;
 mod status;
 mod stream;
-#[cfg(test)]
-mod tests;
 
 pub use cep_rows::RowCause;
 pub use ending::Ending;
-pub use handler::{Handler, LineFault};
+pub use handler::{EndFault, Handler, LineFault};
 pub use notes::tell;
 pub use status::{Status, number};
 pub use stream::run;

@@ -3,8 +3,8 @@ ghost use Rattle.cep_outside.specs.Outside.{Rose};
 ghost use Rattle.cep_session.specs.Meaning.{Meaning};
 ghost use Rattle.cep_session.specs.Rows.{Stands, IsTaken, IsFinished};
 
-use crate::{Ending, Handler, LineFault};
-use cep_outside::{Sink, write_all};
+use crate::{EndFault, Ending, Handler, LineFault};
+use cep_outside::Sink;
 use cep_rows::{Line, RowCause};
 
 /// A handler, and how many lines it has handled of how many that are allowed.
@@ -52,17 +52,14 @@ impl<H: Handler> Rows<H> {
         ensures later { K.faults output.old ≤ K.faults output.new }
         ensures cause { result ≡ Err Ending.WriteFault → Rose (K.faults output.old) (K.faults output.new) }
     {
-        let text = match self.handler.line(line) {
-            Ok(text) => text,
-            Err(LineFault::NoMemory) => return Err(Ending::NoMemory),
-            Err(LineFault::Refused(cause)) => {
-                return Err(self.refused(cause));
+        match self.handler.line(line, output) {
+            Ok(()) => {
+                self.handled += 1;
+                Ok(())
             }
-        };
-        self.handled += 1;
-        match write_all(output, text.as_slice()) {
-            Ok(()) => Ok(()),
-            Err(_) => Err(Ending::WriteFault),
+            Err(LineFault::NoMemory) => Err(Ending::NoMemory),
+            Err(LineFault::Unwritten) => Err(Ending::WriteFault),
+            Err(LineFault::Refused(cause)) => Err(self.refused(cause)),
         }
     }
 
@@ -80,12 +77,10 @@ impl<H: Handler> Rows<H> {
             handled: _,
             allowed: _,
         } = self;
-        match handler.end() {
-            Ok(text) => match write_all(output, text.as_slice()) {
-                Ok(()) => Ending::Done,
-                Err(_) => Ending::WriteFault,
-            },
-            Err(_) => Ending::NoMemory,
+        match handler.end(output) {
+            Ok(()) => Ending::Done,
+            Err(EndFault::NoMemory) => Ending::NoMemory,
+            Err(EndFault::Unwritten) => Ending::WriteFault,
         }
     }
 }

@@ -5,8 +5,6 @@ mod app;
 mod number;
 mod options;
 mod said;
-#[cfg(test)]
-mod tests;
 mod words;
 
 pub use options::{Mode, Options};

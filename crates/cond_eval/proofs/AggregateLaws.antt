@@ -26,7 +26,7 @@ numbers_of-list types stage field (taken ∷ list) = here (taken.stage == stage)
     here true e = ap (cons_option (read taken.event)) e
     here false e = e
 
-drawn_together-reduce : (pick : ℤ → ℤ → ℤ) (xs : List ℤ) → drawn_together pick xs ≡ number_if_known (reduce pick xs)
+pub drawn_together-reduce : (pick : ℤ → ℤ → ℤ) (xs : List ℤ) → drawn_together pick xs ≡ number_if_known (reduce pick xs)
 drawn_together-reduce pick [] = refl
 drawn_together-reduce pick (x ∷ xs) = refl
 
@@ -40,13 +40,13 @@ filter_map-more h xs i d within =
     ∙ filter_map-append h (take i xs) (get_or xs i d ∷ [])
     ∙ ap (λ more. filter_map h (take i xs) ++ more) (one_if_any (h (get_or xs i d)))
 
-reduce-more : (pick : ℤ → ℤ → ℤ) (xs : List ℤ) (o : Option ℤ) → reduce pick (xs ++ option_to_list o) ≡ drawn pick (reduce pick xs) o
+pub reduce-more : (pick : ℤ → ℤ → ℤ) (xs : List ℤ) (o : Option ℤ) → reduce pick (xs ++ option_to_list o) ≡ drawn pick (reduce pick xs) o
 reduce-more pick [] None = refl
 reduce-more pick [] (Some y) = refl
 reduce-more pick (x ∷ xs) None = ap (λ ys. Some (fold pick x ys)) (append-nil xs)
 reduce-more pick (x ∷ xs) (Some y) = ap Some (fold-append pick x xs (y ∷ []))
 
-last_or-push : {X : Type 0} (o : Option X) (xs : List X) (x : X) → last_or o (xs ++ x ∷ []) ≡ Some x
+pub last_or-push : {X : Type 0} (o : Option X) (xs : List X) (x : X) → last_or o (xs ++ x ∷ []) ≡ Some x
 last_or-push o [] x = refl
 last_or-push o (y ∷ xs) x = last_or-push (Some y) xs x
 

@@ -23,24 +23,24 @@ factor_questions-items : {n : _} (row : Row_of-Factor n) → factor_questions ro
 factor_questions-items end_of-Factor = refl
 factor_questions-items (more_of-Factor how x row) = ap (λ later. questions_of x ++ later) (factor_questions-items row)
 
-part_questions-hidden : (parts : List Expr) → part_questions (hidden-the_row-Expr-0 parts) ≡ flat_map questions_of parts
+pub part_questions-hidden : (parts : List Expr) → part_questions (hidden-the_row-Expr-0 parts) ≡ flat_map questions_of parts
 part_questions-hidden parts = part_questions-items (hidden-the_row-Expr-0 parts) ∙ ap (flat_map questions_of) (items_hidden-the_row-Expr-0 parts)
 
-questions_of-Add : (terms : List Term) → questions_of (Add terms) ≡ flat_map (λ term. questions_of term.expr) terms
+pub questions_of-Add : (terms : List Term) → questions_of (Add terms) ≡ flat_map (λ term. questions_of term.expr) terms
 questions_of-Add terms = term_questions-items (hidden-the_row-Term-2 terms) ∙ ap (flat_map (λ term. questions_of term.expr)) (items_hidden-the_row-Term-2 terms)
 
-questions_of-Mul : (factors : List Factor) → questions_of (Mul factors) ≡ flat_map (λ factor. questions_of factor.expr) factors
+pub questions_of-Mul : (factors : List Factor) → questions_of (Mul factors) ≡ flat_map (λ factor. questions_of factor.expr) factors
 questions_of-Mul factors = factor_questions-items (hidden-the_row-Factor-3 factors) ∙ ap (flat_map (λ factor. questions_of factor.expr)) (items_hidden-the_row-Factor-3 factors)
 
-questions_of-Compare : (c : Cmp) (x y : Expr) → questions_of (Compare c x y) ≡ questions_of x ++ questions_of y
+pub questions_of-Compare : (c : Cmp) (x y : Expr) → questions_of (Compare c x y) ≡ questions_of x ++ questions_of y
 unfolding hidden-the_row-Expr-1 denote.Hole.Carrier.hidden
 questions_of-Compare c x y = ap (λ qs. qs ++ (questions_of y ++ [])) (append-nil (questions_of x)) ∙ ap (λ qs. questions_of x ++ qs) (append-nil (questions_of y))
 
-questions_of-Not : (x : Expr) → questions_of (Not x) ≡ questions_of x
+pub questions_of-Not : (x : Expr) → questions_of (Not x) ≡ questions_of x
 unfolding hidden-the_row-Expr-1 denote.Hole.Carrier.hidden
 questions_of-Not x = append-nil (questions_of x)
 
-questions_of-Neg : (x : Expr) → questions_of (Neg x) ≡ questions_of x
+pub questions_of-Neg : (x : Expr) → questions_of (Neg x) ≡ questions_of x
 unfolding hidden-the_row-Expr-1 denote.Hole.Carrier.hidden
 questions_of-Neg x = append-nil (questions_of x)
 

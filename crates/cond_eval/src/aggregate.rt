@@ -35,7 +35,8 @@ pub fn sum_for<'a>(types: &[EventType], list: &[Taken], stage: u16, field: u16) 
     in_word(total)
 }
 
-fn lesser_of(so_far: Option<i64>, next: Option<i64>) -> Option<i64>
+/// The lesser of two numbers that may be there.
+pub fn lesser_of(so_far: Option<i64>, next: Option<i64>) -> Option<i64>
     ensures { result ≡ drawn lesser so_far next }
 {
     match (so_far, next) {
@@ -45,7 +46,8 @@ fn lesser_of(so_far: Option<i64>, next: Option<i64>) -> Option<i64>
     }
 }
 
-fn greater_of(so_far: Option<i64>, next: Option<i64>) -> Option<i64>
+/// The greater of two numbers that may be there.
+pub fn greater_of(so_far: Option<i64>, next: Option<i64>) -> Option<i64>
     ensures { result ≡ drawn greater so_far next }
 {
     match (so_far, next) {

@@ -5,6 +5,7 @@ ghost use Rattle.cond_eval.specs.Known.{number_if_known};
 use cep_event::Text;
 use cep_plan::{Cmp, Val};
 
+/// The number, and else Missing.
 pub fn number_if_known<'a>(number: Option<i64>) -> Val<'a>
     ensures { answer_seen result ≡ number_if_known number }
 {
@@ -14,6 +15,7 @@ pub fn number_if_known<'a>(number: Option<i64>) -> Val<'a>
     }
 }
 
+/// The number where it fits 64 bits, and else Missing.
 pub fn in_word<'a>(number: i128) -> Val<'a>
     ensures { answer_seen result ≡ in_word number }
 {

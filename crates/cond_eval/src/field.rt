@@ -16,7 +16,8 @@ fn field_place(kind: &EventType, field: u16) -> Option<usize>
         .position(|f| f.number == field)
 }
 
-fn field_of<'a>(types: &[EventType], field: u16, event: &'a Event) -> Option<&'a Value>
+/// What the event holds in the field, where its type has it.
+pub fn field_of<'a>(types: &[EventType], field: u16, event: &'a Event) -> Option<&'a Value>
     ensures { option_copied result ≡ field_of types.now field event.now }
 {
     let kind = types.get(event.type_no as usize)?;

@@ -7,9 +7,10 @@ mod condition;
 mod evaluate;
 mod field;
 mod listed;
-#[cfg(test)]
-mod tests;
 
+pub use aggregate::{greater_of, lesser_of};
+pub use answer::{in_word, number_if_known};
 pub use condition::holds;
 pub use evaluate::value;
+pub use field::field_of;
 pub use listed::ListMatched;

@@ -4,11 +4,12 @@
 #![tactic(auto)]
 
 ghost use Rattle.std.specs.Prelude.{◌≡◌, ◌<◌, ◌≤◌, [], ◌∷◌, ◌++◌, IfOk, IsOk, length};
-ghost use Rattle.dewey_version.specs.Version.{begins};
+ghost use Rattle.dewey_version.specs.Version.{begins, version_cmp};
 
 use cep_event::NoMemory;
 use smallvec::SmallVec;
 use std::alloc::Global;
+use std::cmp::Ordering;
 use std::marker::Model;
 
 /// How many digits a version holds with no memory of its own.
@@ -55,6 +56,13 @@ impl Version {
         other.digits.as_slice().starts_with(self.digits.as_slice())
     }
 
+    /// The place of this version in order against the other: by the first digits that differ, and a proper prefix first.
+    pub fn compare(&self, other: &Version) -> Ordering
+        ensures { result ≡ version_cmp self.now other.now }
+    {
+        self.digits.as_slice().cmp(other.digits.as_slice())
+    }
+
     /// How many digits it has.
     pub fn len(&self) -> usize
         ensures { result ≡ length self.now }
@@ -76,6 +84,7 @@ impl Version {
 mod tests {
     use super::{NoMemory, Version};
     use std::alloc::Global;
+    use std::cmp::Ordering;
     use std::test::Fail;
 
     fn version(alloc: Global, digits: &[u64]) -> Result<Version, NoMemory> {
@@ -105,6 +114,10 @@ mod tests {
             assert_eq!(rt; part.begins(&whole), expected);
         }
         assert_eq!(rt; version(alloc, &long)?.len(), 10);
+        assert_eq!(rt;
+            version(alloc, &[0, 7])?.compare(&version(alloc, &[0, 7, 0])?),
+            Ordering::Less
+        );
         Ok(())
     }
 }

@@ -12,6 +12,3 @@ mod split;
 pub use quotes::needs_quotes;
 pub use reading::{Fields, read_fields};
 pub use record::record_by_csv;
-
-#[cfg(test)]
-mod tests;

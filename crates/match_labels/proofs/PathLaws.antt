@@ -73,7 +73,7 @@ other_begins_not plan events other list later end apart po eo pl el =
 
 -- ---- later events
 
-counts-same : (p q : ℕ → Bool) (from n : ℕ) → ((k : ℕ) → from ≤ k → k < from + n → p k ≡ q k) → count_by p (range_with_len from n) ≡ count_by q (range_with_len from n)
+pub counts-same : (p q : ℕ → Bool) (from n : ℕ) → ((k : ℕ) → from ≤ k → k < from + n → p k ≡ q k) → count_by p (range_with_len from n) ≡ count_by q (range_with_len from n)
 counts-same p q from zero same = refl
 counts-same p q from (suc n) same =
     let later = counts-same p q (from + 1) n (λ k above below. same k (omega (arith, above)) (omega (arith, below))) in

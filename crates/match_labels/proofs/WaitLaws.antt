@@ -8,11 +8,7 @@ use Rattle.cep_plan.specs.declared.plan.Plan.{Plan}
 use Rattle.cep_plan.specs.Follow.{may_follow}
 use Rattle.nfa_compile.specs.declared.nfa.Wait.{Wait}
 use Rattle.nfa_compile.specs.Automaton.{wait_for, waits_of}
-use Rattle.match_labels.specs.Label.{stays, branches_off, branches_below, branches_in}
-
--- the wait branches off
-abbrev pub branches : Wait → Bool
-branches wait = not wait.same_chain
+use Rattle.match_labels.specs.Label.{stays, branches, branches_off, branches_below, branches_in}
 
 split : {X : Type 0} (test : X → Bool) (x : X) (xs : List X) → count_by test (x ∷ xs) ≡ (0 + cond (test x) 1 0) + count_by test xs
 split test x xs = sum_by-append (λ y. cond (test y) 1 0) (x ∷ []) xs

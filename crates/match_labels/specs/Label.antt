@@ -6,6 +6,7 @@ use Rattle.cep_plan.specs.declared.plan.Plan.{Plan}
 use Rattle.cep_plan.specs.Entry.{Entry, stages_of}
 use Rattle.cep_plan.specs.Follow.{may_follow}
 use Rattle.cep_plan.specs.Partial.{is_partial}
+use Rattle.nfa_compile.specs.declared.nfa.Wait.{Wait}
 use Rattle.nfa_compile.specs.Automaton.{is_chaining, is_same_chain, mode_behind}
 
 -- The label of a list, and the first digit that the list hasn't given away yet.
@@ -20,6 +21,10 @@ stays plan so_far stage = is_same_chain plan (last_or None so_far) stage
 -- the stage may follow, and the step to it doesn't stay in the same chain
 abbrev pub branches_off : Plan → List ℕ → ℕ → Bool
 branches_off plan so_far stage = may_follow plan so_far stage && not (stays plan so_far stage)
+
+-- the wait branches off
+abbrev pub branches : Wait → Bool
+branches wait = not wait.same_chain
 
 -- how many stages below this one branch off
 unfoldable pub branches_below : Plan → List ℕ → ℕ → ℕ

@@ -7,8 +7,6 @@ mod explained;
 mod nfa;
 mod reach;
 mod state;
-#[cfg(test)]
-mod tests;
 mod waiting;
 
 pub use compilable::is_compilable;

@@ -1,125 +1,35 @@
 //! Runs that wait for one stage.
-ghost use Rattle.std.specs.Prelude.{◌≡◌, ◌≤◌, ◌<◌, ◌^◌, ◌+◌, ◌-◌, ◌++◌, ◌∷◌, [], if◌then◌else◌, ℕ, true, not, IsTrue, IfOk, List, length, map, filter, take, drop, slice_index_or};
+ghost use Rattle.std.specs.Prelude.{IsTrue, ◌-◌, slice_index_or, ◌≡◌, ◌≤◌, ◌<◌, [], ◌∷◌, ◌++◌, IfOk, if◌then◌else◌, List, length, take, drop, map, filter, not};
 ghost use Rattle.std.specs.List.{AllByRecursion as Each};
-ghost use Rattle.std.specs.List.Sorted.{IsPermutation, IsNonDecreasingBy};
-ghost use Rattle.live_laws.specs.Survival.{survives, takes};
-ghost use Rattle.live_laws.specs.Starts.{starts_in, is_from, waits_from};
-ghost use Rattle.run_step.specs.declared.runs.ListRun.{ListRun};
-ghost use Rattle.run_step.specs.Content.{AreShort};
-ghost use Rattle.run_step.specs.Runs.{grown};
-ghost use Rattle.run_step.specs.Grouped.{start_of};
+ghost use Rattle.std.specs.List.Sorted.{IsPermutation};
+ghost use Rattle.run_step.specs.declared.runs.Run.{Run as RunRow};
+ghost use Rattle.cep_event.specs.declared.event.Event.{Event as EventRow};
+ghost use Rattle.run_step.specs.Content.{IsOrdered, staged};
+ghost use Rattle.run_step.specs.Runs.{Waiter, AreRunsOf};
+ghost use Rattle.cep_plan.specs.declared.plan.Plan.{Plan as PlanRow};
+ghost use Rattle.live_laws.specs.Starts.{is_from};
+ghost use Rattle.list_buffer.specs.Held.{Holder, Holds};
+ghost use Rattle.list_buffer.specs.Listed.{HoldsLists};
+ghost use Rattle.run_step.specs.Putting.{CanEndAll, CanEndAllSome};
+ghost use Rattle.run_step.specs.Pins.{KeepsPins};
+ghost use Rattle.run_step.specs.Showing.{is_shown, tip_of};
+ghost use Rattle.run_step.specs.Noting.{CanPassGroup, CanPassGroupSome, GroupPassed, TailPassed};
 
-use crate::lists::copied_list;
-use crate::passed::survivors;
-use crate::runs::{ListRun, TakenLists};
-use crate::shown::is_shown;
-use crate::untouched::is_untouched;
+use crate::passed::{judged, note_take};
+use crate::passing::Passing;
+use crate::put::end_run;
+use crate::runs::{Run, TipList};
+use crate::shown::add_shown;
 use cep_event::{Event, NoMemory};
 use cep_plan::Plan;
+use nfa_compile::Nfa;
+use run_judge::is_untouched;
+use shared_buffer::Buffer;
 use std::alloc::Global;
 use std::collections::VecDeque;
 use std::marker::Model;
 
-pub type RunQueue = VecDeque<ListRun>;
-
-/// The position of the first event, and past all positions where there is none.
-pub fn start_of(run: &ListRun) -> u64
-    ensures { result ≡ start_of run.now }
-{
-    match run.list.get(0) {
-        None => 1 << 32,
-        Some(first) => first.position as u64,
-    }
-}
-
-/// How many of the runs start before the position.
-pub fn place_of(runs: &RunQueue, start: u64) -> usize
-    requires { IsNonDecreasingBy start_of runs.now.items }
-    ensures bound { result ≤ length runs.now.items }
-    ensures before { Each (λ run. start_of run < start) (take result runs.now.items) }
-    ensures behind { Each (λ run. start ≤ start_of run) (drop result runs.now.items) }
-{
-    runs.partition_point(|run| start_of(run) < start)
-}
-
-/// Whether no run starts later than this one does.
-pub fn comes_last(runs: &RunQueue, run: &ListRun) -> bool
-    ensures { IsTrue result → (d : ListRun) → 0 < length runs.now.items → start_of (slice_index_or runs.now.items (length runs.now.items - 1) d) ≤ start_of run.now }
-{
-    match runs.back() {
-        None => true,
-        Some(last) => start_of(last) <= start_of(run),
-    }
-}
-
-/// Adds the run, and answers whether they are in order of their starts, as far as they were.
-pub fn push_run(runs: &mut RunQueue, run: ListRun, are_ordered: bool) -> Result<bool, NoMemory>
-    ensures runs { IfOk result (λ ordered. runs.new.items ≡ runs.old.items ++ run ∷ []) }
-    ensures ordered { (IsTrue are_ordered → IsNonDecreasingBy start_of runs.old.items) → IfOk result (λ ordered. IsTrue ordered → IsNonDecreasingBy start_of runs.new.items) }
-{
-    let is_last = comes_last(runs, &run);
-    runs.push_back(run)?;
-    if is_last {
-        return Ok(are_ordered);
-    }
-    Ok(false)
-}
-
-/// The runs in order of their starts.
-pub fn in_start_order(runs: RunQueue, are_ordered: bool) -> Result<RunQueue, NoMemory>
-    requires { IsTrue are_ordered → IsNonDecreasingBy start_of runs.items }
-    ensures same { IfOk result (λ made. IsPermutation runs.items made.items) }
-    ensures ordered { IfOk result (λ made. IsNonDecreasingBy start_of made.items) }
-{
-    if are_ordered {
-        return Ok(runs);
-    }
-    // Both parts of the runs are in order, so this is a merge.
-    let mut all = runs.into_vec();
-    all.sort_by_key(|run| start_of(run))?;
-    Ok(RunQueue::from_vec(all))
-}
-
-/// The runs with the others among them, in order of their starts.
-pub fn joined(runs: RunQueue, others: RunQueue) -> Result<RunQueue, NoMemory>
-    requires { IsNonDecreasingBy start_of runs.items }
-    ensures same { IfOk result (λ made. IsPermutation (runs.items ++ others.items) made.items) }
-    ensures ordered { IfOk result (λ made. IsNonDecreasingBy start_of made.items) }
-{
-    let mut all = runs;
-    let mut are_ordered = true;
-    for run in others {
-        are_ordered = push_run(&mut all, run, are_ordered)?;
-    }
-    in_start_order(all, are_ordered)
-}
-
-/// Lets the runs between the two places go.
-pub fn drop_between(runs: &mut RunQueue, first: usize, end: usize)
-    requires order { first ≤ end }
-    requires bound { end ≤ length runs.old.items }
-    ensures { runs.new.items ≡ take first runs.old.items ++ drop end runs.old.items }
-{
-    // To take out none would still turn the queue.
-    if first < end {
-        runs.drain(first..end);
-    }
-}
-
-/// Adds the list of the run where it has the start and isn't full.
-pub fn add_shown(
-    lists: &mut TakenLists,
-    plan: &Plan,
-    run: &ListRun,
-    start: u32,
-) -> Result<(), NoMemory>
-    ensures { IfOk result (λ done. lists.new ≡ lists.old ++ (if waits_from plan.now start run.now.list then run.now.list ∷ [] else [])) }
-{
-    if is_shown(plan, &run.list, start) {
-        lists.push(copied_list(&run.list)?)?;
-    }
-    Ok(())
-}
+pub type RunQueue = VecDeque<Run>;
 
 /// The runs that wait for one stage, in order of their starts.
 #[derive(Drop)]
@@ -129,13 +39,84 @@ pub struct Group {
 }
 
 impl Model for Group {
-    ghost use Rattle.run_step.specs.Grouped.{Grouped, IsGroup};
+    ghost use Rattle.run_step.specs.Content.{Grouped, IsOrdered};
 
     ghost Value = { Grouped };
 
     ghost view = { λ g. record { stage = g.stage; runs = g.runs.items } };
 
-    ghost invariant = { λ g. IsGroup g.stage g.runs.items };
+    ghost invariant = { λ g. IsOrdered g.runs.items };
+}
+
+/// How many runs at the front go on waiting. Their takes are noted.
+pub fn pass_front(
+    runs: &mut RunQueue,
+    stage: u16,
+    nfa: &Nfa,
+    plan: &Plan,
+    event: &Event,
+    position: u32,
+    passing: &mut Passing,
+) -> Result<usize, NoMemory>
+    requires { CanPassGroupSome plan.now position stage nfa.now runs.old.items }
+    ensures within { IfOk result (λ kept. (kept ≤ length runs.new.items) × (length runs.new.items ≡ length runs.old.items)) }
+    ensures rest { IfOk result (λ kept. drop kept runs.new.items ≡ drop kept runs.old.items) }
+    ensures order { IsOrdered runs.old.items → IsOrdered runs.new.items }
+    ensures front { (events : List EventRow) (waiters : List Waiter) → CanPassGroup plan.now events position stage waiters nfa.now runs.old.items → IfOk result (λ kept. GroupPassed plan.now events event.now stage (take kept waiters) (take kept runs.new.items) passing.old passing.new) }
+{
+    let number = runs.len();
+    for place in 0..number {
+        let run = &mut runs[place];
+        let fate = judged(plan, run, stage, event, position);
+        if !fate.lives {
+            return Ok(place);
+        }
+        note_take(run, fate.taken, nfa, event, position, passing)?;
+    }
+    Ok(number)
+}
+
+/// Adds the run where it goes on waiting. Else it ends.
+pub fn keep_or_end(
+    runs: &mut RunQueue,
+    run: Run,
+    lives: bool,
+    ended: &mut Vec<Run>,
+) -> Result<(), NoMemory>
+    ensures kept { IfOk result (λ done. runs.new.items ≡ runs.old.items ++ (if lives then run ∷ [] else [])) }
+    ensures ended { IfOk result (λ done. ended.new.items ≡ ended.old.items ++ (if lives then [] else run ∷ [])) }
+    ensures order { (rest : List RunRow) → IsOrdered (runs.old.items ++ run ∷ rest) → IsOrdered (runs.new.items ++ rest) }
+{
+    if lives {
+        runs.push_back(run)?;
+        return Ok(());
+    }
+    ended.push(run)?;
+    Ok(())
+}
+
+/// Adds those of the runs that go on waiting. The others end.
+pub fn pass_tail(
+    runs: &mut RunQueue,
+    tail: RunQueue,
+    stage: u16,
+    nfa: &Nfa,
+    plan: &Plan,
+    event: &Event,
+    position: u32,
+    passing: &mut Passing,
+) -> Result<(), NoMemory>
+    requires { CanPassGroupSome plan.now position stage nfa.now tail.items }
+    ensures order { IsOrdered (runs.old.items ++ tail.items) → IsOrdered runs.new.items }
+    ensures passed { (events : List EventRow) (waiters : List Waiter) (front : List Waiter) → CanPassGroup plan.now events position stage waiters nfa.now tail.items → AreRunsOf plan.now (events ++ event.now ∷ []) front (map (staged stage) runs.old.items) → IfOk result (λ done. TailPassed plan.now events event.now stage front waiters runs.new.items passing.old passing.new) }
+{
+    for run in tail {
+        let mut run = run;
+        let fate = judged(plan, &run, stage, event, position);
+        note_take(&mut run, fate.taken, nfa, event, position, passing)?;
+        keep_or_end(runs, run, fate.lives, &mut passing.ended)?;
+    }
+    Ok(())
 }
 
 impl Group {
@@ -154,41 +135,52 @@ impl Group {
         self.stage
     }
 
-    /// Whether the event changes none of the runs, as far as that is known without a look at them.
-    pub fn is_spared(&self, plan: &Plan, event: &Event) -> bool
-        ensures taken { IsTrue result → (position : ℕ) → filter (λ run. takes plan.now run.list run.stage event.now position) self.now.runs ≡ [] }
-        ensures lives { IsTrue result → (position : ℕ) → filter (λ run. survives plan.now run.list run.stage event.now position) self.now.runs ≡ self.now.runs }
-    {
-        if self.runs.is_empty() {
-            return true;
-        }
-        is_untouched(plan, self.stage, event)
-    }
-
-    /// The runs that survive the event. The lists that end at it are added to the others.
-    pub fn passed(
-        self,
+    /// Takes the event into the runs. A group of which it changes nothing isn't looked at, and the runs at the front that go on waiting aren't moved.
+    pub fn pass(
+        &mut self,
+        nfa: &Nfa,
         plan: &Plan,
         event: &Event,
         position: u32,
-        lists: &mut TakenLists,
-        alloc: Global,
-    ) -> Result<Group, NoMemory>
-        requires { AreShort position self.runs }
-        ensures runs { IfOk result (λ made. made ≡ record self { runs = filter (λ run. survives plan.now run.list run.stage event.now position) self.runs }) }
-        ensures lists { IfOk result (λ made. lists.new ≡ lists.old ++ grown plan.now self.runs event.now position) }
+        passing: &mut Passing,
+    ) -> Result<(), NoMemory>
+        requires { CanPassGroupSome plan.now position self.old.stage nfa.now self.old.runs }
+        ensures stage { IfOk result (λ done. self.new.stage ≡ self.old.stage) }
+        ensures passed { (events : List EventRow) (waiters : List Waiter) → CanPassGroup plan.now events position self.old.stage waiters nfa.now self.old.runs → IfOk result (λ done. GroupPassed plan.now events event.now self.old.stage waiters self.new.runs passing.old passing.new) }
     {
-        if self.is_spared(plan, event) {
-            return Ok(self);
+        if self.runs.is_empty() {
+            return Ok(());
         }
-        let Group { stage, runs } = self;
-        let runs = survivors(runs, plan, event, position, lists, alloc)?;
-        Ok(Group { stage, runs })
+        if is_untouched(plan, self.stage, event) {
+            return Ok(());
+        }
+        let kept = pass_front(
+            &mut self.runs,
+            self.stage,
+            nfa,
+            plan,
+            event,
+            position,
+            passing,
+        )?;
+        if kept < self.runs.len() {
+            let tail = self.runs.split_off(kept)?;
+            pass_tail(
+                &mut self.runs,
+                tail,
+                self.stage,
+                nfa,
+                plan,
+                event,
+                position,
+                passing,
+            )?;
+        }
+        Ok(())
     }
 
     /// The group with the other runs, which wait for its stage.
     pub fn with(self, others: RunQueue) -> Result<Group, NoMemory>
-        requires { Each (λ run. run.stage ≡ self.stage) others.items }
         ensures stage { IfOk result (λ made. made.stage ≡ self.stage) }
         ensures runs { IfOk result (λ made. IsPermutation (self.runs ++ others.items) made.runs) }
     {
@@ -197,31 +189,126 @@ impl Group {
         Ok(Group { stage, runs })
     }
 
-    /// Lets the runs go that start from one position up to another, without the latter. It takes no memory.
-    pub fn kill(&mut self, from: u32, to: u32)
-        ensures { self.new ≡ record self.old { runs = filter (λ run. not (starts_in (is_from from to) run.list)) self.old.runs } }
+    /// Adds the tips of the runs whose lists begin there and aren't full, one for each run.
+    pub fn add_waiting(&self, nfa: &Nfa, start: u32, tips: &mut TipList) -> Result<(), NoMemory>
+        ensures { IfOk result (λ done. tips.new ≡ tips.old ++ map tip_of (filter (is_shown nfa.now start) self.now.runs)) }
+    {
+        let first = place_of(&self.runs, start);
+        let end = place_behind(&self.runs, start);
+        for place in first..end {
+            add_shown(tips, &self.runs[place], nfa, start)?;
+        }
+        Ok(())
+    }
+
+    /// Lets the runs go that start from one position up to another, without the latter, and their holds. It takes no memory.
+    pub fn kill(&mut self, buffer: &mut Buffer, from: u32, to: u32)
+        requires { CanEndAllSome (filter (λ run. is_from from to run.start) self.old.runs) buffer.old }
+        ensures runs { self.new ≡ record self.old { runs = filter (λ run. not (is_from from to run.start)) self.old.runs } }
+        ensures held { (plan : PlanRow) (events : List EventRow) (holders : List Holder) (held : Holds) → CanEndAll plan events holders held (filter (λ run. is_from from to run.start) self.old.runs) buffer.old → HoldsLists plan events held buffer.new }
+        ensures pins { KeepsPins buffer.old buffer.new }
     {
         if from < to {
-            let first = place_of(&self.runs, from as u64);
-            let end = place_of(&self.runs, to as u64);
+            let first = place_of(&self.runs, from);
+            let end = place_of(&self.runs, to);
+            end_between(&self.runs, buffer, first, end);
             drop_between(&mut self.runs, first, end);
         }
     }
+}
 
-    /// Adds the lists that start there and aren't full.
-    pub fn add_waiting(
-        &self,
-        plan: &Plan,
-        start: u32,
-        lists: &mut TakenLists,
-    ) -> Result<(), NoMemory>
-        ensures { IfOk result (λ done. lists.new ≡ lists.old ++ map (λ r. r.list) (filter (λ r. waits_from plan.now start r.list) self.now.runs)) }
-    {
-        let first = place_of(&self.runs, start as u64);
-        let end = place_of(&self.runs, start as u64 + 1);
-        for place in first..end {
-            add_shown(lists, plan, &self.runs[place], start)?;
-        }
-        Ok(())
+/// Whether no run starts later than this one does.
+pub fn comes_last(runs: &RunQueue, run: &Run) -> bool
+    ensures { IsTrue result → (d : RunRow) → 0 < length runs.now.items → (slice_index_or runs.now.items (length runs.now.items - 1) d).start ≤ run.now.start }
+{
+    match runs.back() {
+        None => true,
+        Some(last) => last.start <= run.start,
+    }
+}
+
+/// Adds the run, and answers whether they are in order of their starts, as far as they were.
+pub fn push_run(runs: &mut RunQueue, run: Run, are_ordered: bool) -> Result<bool, NoMemory>
+    ensures runs { IfOk result (λ ordered. runs.new.items ≡ runs.old.items ++ run ∷ []) }
+    ensures ordered { (IsTrue are_ordered → IsOrdered runs.old.items) → IfOk result (λ ordered. IsTrue ordered → IsOrdered runs.new.items) }
+{
+    let is_last = comes_last(runs, &run);
+    runs.push_back(run)?;
+    if is_last {
+        return Ok(are_ordered);
+    }
+    Ok(false)
+}
+
+/// The runs in order of their starts.
+pub fn in_start_order(runs: RunQueue, are_ordered: bool) -> Result<RunQueue, NoMemory>
+    requires { IsTrue are_ordered → IsOrdered runs.items }
+    ensures same { IfOk result (λ made. IsPermutation runs.items made.items) }
+    ensures ordered { IfOk result (λ made. IsOrdered made.items) }
+{
+    if are_ordered {
+        return Ok(runs);
+    }
+    // Both parts of the runs are in order, so this is a merge.
+    let mut all = runs.into_vec();
+    all.sort_by_key(|run| run.start)?;
+    Ok(RunQueue::from_vec(all))
+}
+
+/// The runs with the others among them, in order of their starts.
+pub fn joined(runs: RunQueue, others: RunQueue) -> Result<RunQueue, NoMemory>
+    requires { IsOrdered runs.items }
+    ensures same { IfOk result (λ made. IsPermutation (runs.items ++ others.items) made.items) }
+    ensures ordered { IfOk result (λ made. IsOrdered made.items) }
+{
+    let mut all = runs;
+    let mut are_ordered = true;
+    for run in others {
+        are_ordered = push_run(&mut all, run, are_ordered)?;
+    }
+    in_start_order(all, are_ordered)
+}
+
+/// How many of the runs start before the position.
+pub fn place_of(runs: &RunQueue, start: u32) -> usize
+    requires { IsOrdered runs.now.items }
+    ensures bound { result ≤ length runs.now.items }
+    ensures before { Each (λ run. run.start < start) (take result runs.now.items) }
+    ensures behind { Each (λ run. start ≤ run.start) (drop result runs.now.items) }
+{
+    runs.partition_point(|run| run.start < start)
+}
+
+/// How many of the runs start at the position or before it.
+pub fn place_behind(runs: &RunQueue, start: u32) -> usize
+    requires { IsOrdered runs.now.items }
+    ensures bound { result ≤ length runs.now.items }
+    ensures before { Each (λ run. run.start ≤ start) (take result runs.now.items) }
+    ensures behind { Each (λ run. start < run.start) (drop result runs.now.items) }
+{
+    runs.partition_point(|run| run.start <= start)
+}
+
+/// Takes the holds of the runs between the two places.
+pub fn end_between(runs: &RunQueue, buffer: &mut Buffer, first: usize, end: usize)
+    requires bound { end ≤ length runs.now.items }
+    requires can { CanEndAllSome (take (end - first) (drop first runs.now.items)) buffer.old }
+    ensures held { (plan : PlanRow) (events : List EventRow) (holders : List Holder) (held : Holds) → CanEndAll plan events holders held (take (end - first) (drop first runs.now.items)) buffer.old → HoldsLists plan events held buffer.new }
+    ensures pins { KeepsPins buffer.old buffer.new }
+{
+    for place in first..end {
+        end_run(&runs[place], buffer);
+    }
+}
+
+/// Lets the runs between the two places go.
+pub fn drop_between(runs: &mut RunQueue, first: usize, end: usize)
+    requires order { first ≤ end }
+    requires bound { end ≤ length runs.old.items }
+    ensures { runs.new.items ≡ take first runs.old.items ++ drop end runs.old.items }
+{
+    // To take out none would still turn the queue.
+    if first < end {
+        runs.drain(first..end);
     }
 }

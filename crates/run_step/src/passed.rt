@@ -1,83 +1,120 @@
-//! What an event makes of runs: those that survive it, and the lists that end at it.
-ghost use Rattle.std.specs.Prelude.{if◌then◌else◌, ◌≡◌, ◌≤◌, ◌++◌, [], ◌∷◌, filter, IfOk};
+//! What an event makes of one run.
+ghost use Rattle.std.specs.Prelude.{◌≡◌, ◌<◌, ◌^◌, length, ℕ, List, [], ◌∷◌, ◌++◌, IfOk};
+ghost use Rattle.cep_plan.specs.declared.plan.Plan.{Plan as PlanRow};
+ghost use Rattle.cep_event.specs.declared.event.Event.{Event as EventRow};
 ghost use Rattle.live_laws.specs.Survival.{survives, takes};
-ghost use Rattle.run_step.specs.Content.{AreShort};
-ghost use Rattle.run_step.specs.Runs.{with_event, grown};
-ghost use Rattle.run_step.specs.Grouped.{AreFirst};
+ghost use Rattle.run_step.specs.Runs.{Waiter};
+ghost use Rattle.run_step.specs.Taking.{IsTakeOf, CanTakeRun, CanTakeSome};
+ghost use Rattle.run_step.specs.Passing.{is_taking};
+ghost use Rattle.run_step.specs.Noting.{IsNoted, CanNote, CanNoteSome, first_waiter, CanTakeFirst, CanTakeFirstSome, IsFirstNoted};
 
-use crate::gap::judged;
-use crate::group::RunQueue;
-use crate::lists::extended;
-use crate::runs::{ListRun, RunList, TakenLists};
+use crate::digits::{digit_after, label_after, waits_at};
+use crate::passing::{Passing, Take};
+use crate::runs::Run;
 use cep_event::{Event, NoMemory};
-use cep_plan::Plan;
+use cep_plan::{Plan, TakenList};
+use dewey_version::Version;
+use nfa_compile::{Nfa, Wait};
+use run_judge::{Fate, extended, judged_list};
+use shared_buffer::NodeKey;
 use std::alloc::Global;
 
-/// Adds the list of the run with the event behind it, where the run takes the event.
-pub fn add_grown(
-    lists: &mut TakenLists,
-    run: &ListRun,
+/// The take of the run.
+pub fn take_of(run: &Run, nfa: &Nfa, event: &Event, position: u32) -> Result<Take, NoMemory>
+    requires { CanTakeSome position run.now nfa.now }
+    ensures { (plan : PlanRow) (events : List EventRow) (waiter : Waiter) → CanTakeRun plan events position waiter run.now nfa.now → IfOk result (λ made. IsTakeOf plan (events ++ event.now ∷ []) position waiter made) }
+{
+    let waits = waits_at(nfa, run.wait.state);
+    let number = run.wait.number as usize;
+    let wait = &waits[number];
+    Ok(Take {
+        stage: wait.stage,
+        state: wait.state,
+        pred: Some(run.node),
+        version: label_after(waits, number, wait, &run.version, run.next_digit, run.bump)?,
+        next_digit: digit_after(waits, wait, run.next_digit),
+        start: run.start,
+        start_ts: run.start_ts,
+        taken: extended(&run.taken, wait.stage, event, position)?,
+    })
+}
+
+/// The take of the start for the wait with this number.
+pub fn first_take(
+    waits: &[Wait],
+    number: usize,
+    bump: u64,
+    event: &Event,
+    position: u32,
+    alloc: Global,
+) -> Result<Take, NoMemory>
+    requires { CanTakeFirstSome position waits.now number bump }
+    ensures { (plan : PlanRow) (events : List EventRow) (stage : ℕ) → CanTakeFirst plan events position waits.now number stage bump → IfOk result (λ made. IsTakeOf plan (events ++ event.now ∷ []) position (first_waiter stage) made) }
+{
+    let wait = &waits[number];
+    let version = Version::empty(alloc);
+    Ok(Take {
+        stage: wait.stage,
+        state: wait.state,
+        pred: None,
+        version: label_after(waits, number, wait, &version, 0, bump)?,
+        next_digit: digit_after(waits, wait, 0),
+        start: position,
+        start_ts: event.ts,
+        taken: extended(&TakenList::new(alloc), wait.stage, event, position)?,
+    })
+}
+
+/// Notes the take of the start, where the event may be taken, and answers how often the wait was taken then.
+pub fn note_first(
+    bump: u64,
     taken: bool,
+    waits: &[Wait],
+    number: usize,
     event: &Event,
     position: u32,
+    takes: &mut Vec<Take>,
+    alloc: Global,
+) -> Result<u64, NoMemory>
+    requires { CanTakeFirstSome position waits.now number bump }
+    ensures { (plan : PlanRow) (events : List EventRow) (stage : ℕ) → CanTakeFirst plan events position waits.now number stage bump → taken ≡ is_taking plan events event.now (first_waiter stage) → IfOk result (λ after. IsFirstNoted plan events event.now stage after takes.old.items takes.new.items) }
+{
+    if !taken {
+        return Ok(bump);
+    }
+    let noted = first_take(waits, number, bump, event, position, alloc)?;
+    takes.push(noted)?;
+    Ok(bump + 1)
+}
+
+/// What the event does to the run.
+pub fn judged(plan: &Plan, run: &Run, stage: u16, event: &Event, position: u32) -> Fate
+    requires { length run.now.taken < 2 ^ 32 }
+    ensures taken { result.taken ≡ takes plan.now run.now.taken stage event.now position }
+    ensures lives { result.lives ≡ survives plan.now run.now.taken stage event.now position }
+{
+    judged_list(plan, &run.taken, stage, event, position)
+}
+
+/// Notes the take of the run, where the event may be taken.
+pub fn note_take(
+    run: &mut Run,
+    taken: bool,
+    nfa: &Nfa,
+    event: &Event,
+    position: u32,
+    passing: &mut Passing,
 ) -> Result<(), NoMemory>
-    ensures { IfOk result (λ done. lists.new ≡ lists.old ++ (if taken then with_event event.now position run.now ∷ [] else [])) }
+    requires { CanNoteSome event.now position run.old nfa.now taken }
+    ensures noted { (plan : PlanRow) (events : List EventRow) (waiter : Waiter) → CanNote plan events event.now position waiter run.old nfa.now taken → IfOk result (λ done. IsNoted plan events event.now waiter run.new passing.old.takes.items passing.new.takes.items) }
+    ensures ended { passing.new.ended ≡ passing.old.ended }
+    ensures start { run.new.start ≡ run.old.start }
 {
-    if taken {
-        lists.push(extended(&run.list, run.stage, event, position)?)?;
+    if !taken {
+        return Ok(());
     }
+    let noted = take_of(run, nfa, event, position)?;
+    passing.takes.push(noted)?;
+    run.bump += 1;
     Ok(())
-}
-
-/// Keeps the run where it goes on waiting.
-pub fn add_survivor(runs: &mut RunQueue, run: ListRun, lives: bool) -> Result<(), NoMemory>
-    ensures { IfOk result (λ done. runs.new.items ≡ runs.old.items ++ (if lives then run ∷ [] else [])) }
-{
-    if lives {
-        runs.push_back(run)?;
-    }
-    Ok(())
-}
-
-/// The runs that survive the event, in their order. The lists that end at it are added to the others.
-#[tactic(auto, unfolding(crate::specs::Runs::grown))]
-pub fn survivors(
-    runs: RunQueue,
-    plan: &Plan,
-    event: &Event,
-    position: u32,
-    lists: &mut TakenLists,
-    alloc: Global,
-) -> Result<RunQueue, NoMemory>
-    requires { AreShort position runs.items }
-    ensures runs { IfOk result (λ made. made.items ≡ filter (λ run. survives plan.now run.list run.stage event.now position) runs.items) }
-    ensures lists { IfOk result (λ made. lists.new ≡ lists.old ++ grown plan.now runs.items event.now position) }
-{
-    let mut kept = RunQueue::with_capacity(alloc, runs.len())?;
-    for run in runs {
-        let fate = judged(plan, &run, event, position);
-        add_grown(lists, &run, fate.taken, event, position)?;
-        add_survivor(&mut kept, run, fate.lives)?;
-    }
-    Ok(kept)
-}
-
-/// The lists that end at the event, of runs of the empty list.
-#[tactic(auto, unfolding(crate::specs::Runs::grown))]
-pub fn begun(
-    runs: &RunList,
-    plan: &Plan,
-    event: &Event,
-    position: u32,
-    alloc: Global,
-) -> Result<TakenLists, NoMemory>
-    requires { AreFirst runs.now }
-    ensures { IfOk result (λ made. made ≡ grown plan.now runs.now event.now position) }
-{
-    let mut lists = TakenLists::new(alloc);
-    for run in runs.as_slice() {
-        let fate = judged(plan, run, event, position);
-        add_grown(&mut lists, run, fate.taken, event, position)?;
-    }
-    Ok(lists)
 }

@@ -52,6 +52,7 @@ module _ (entries : List (Option Entry)) (nodes : List (Option Node)) (count : �
                   one_edge root.node.edges other root.edge edge.label (sound.graph.prefix_free pred root.node root.found) in_other root.listed begins_other root.begins_it;
             };
         needed = needed_all nodes sound.graph;
+        few = omega (arith, sound.edges, sound.few);
         used = λ key row found free.
             let e = entry_of_row entries key row found in
             used_of_first key e.0 e.0.members e.1 refl (sound.indexed.used key e.0 e.1 (ap (λ (r : Standing). r.pinned) e.2 ∙ free));

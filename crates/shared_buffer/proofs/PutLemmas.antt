@@ -142,8 +142,8 @@ module _ (entries : List (Option Entry)) (nodes : List (Option Node)) (count : �
         let bad : None ≡ Some carry.node = sym vacant ∙ ap (slot_at nodes) e ∙ carry.found in
         absurd (cc)
 
-    pub put_on_node : (key : ℕ) (n : Node) → slot_at nodes key ≡ Some n → n.event ≡ event → n.state ≡ state → n.position ≡ position → (pushed : List (Option Node)) → Changes nodes pushed key (Some (node_with (record { pred = pred; label = label; count = 1 }) n)) → IsSound entries (with_pred_counted label pred pushed) (count + 1)
-    put_on_node key n found of_event of_state same pushed change =
+    pub put_on_node : (key : ℕ) (n : Node) → slot_at nodes key ≡ Some n → n.event ≡ event → n.state ≡ state → n.position ≡ position → (pushed : List (Option Node)) → Changes nodes pushed key (Some (node_with (record { pred = pred; label = label; count = 1 }) n)) → count < 2 ^ 62 → IsSound entries (with_pred_counted label pred pushed) (count + 1)
+    put_on_node key n found of_event of_state same pushed change room =
         let edge : Edge = record { pred = pred; label = label; count = 1 } in
         let apart = taken_differs key n found same in
         let middle = counted_sound pred carries in
@@ -162,6 +162,7 @@ module _ (entries : List (Option Entry)) (nodes : List (Option Node)) (count : �
           indexed =
               IsIndexed-node_change entries (with_pred_counted label pred nodes) middle.indexed (with_pred_counted label pred pushed) key n (node_with edge n)
               there later refl refl refl;
+          few = omega (arith, room);
           edges =
               omega (
                 arith,
@@ -170,8 +171,8 @@ module _ (entries : List (Option Entry)) (nodes : List (Option Node)) (count : �
               );
         }
 
-    pub put_with_node : (key : ℕ) (n : Node) → slot_at nodes key ≡ None → find_member entry.members state ≡ None → n.event ≡ event → n.state ≡ state → n.position ≡ position → n.edges ≡ record { pred = pred; label = label; count = 1 } ∷ [] → (pushed : List (Option Node)) → Changes nodes pushed key (Some n) → (m : Member) → m.state ≡ state → m.node ≡ key → (es : List (Option Entry)) → es ≡ with_slot_changed (entry_with m) entries event → IsSound es (with_pred_counted label pred pushed) (count + 1)
-    put_with_node key n vacant absent of_event of_state same edges_of_n pushed change m m_state m_node es es_is =
+    pub put_with_node : (key : ℕ) (n : Node) → slot_at nodes key ≡ None → find_member entry.members state ≡ None → n.event ≡ event → n.state ≡ state → n.position ≡ position → n.edges ≡ record { pred = pred; label = label; count = 1 } ∷ [] → (pushed : List (Option Node)) → Changes nodes pushed key (Some n) → (m : Member) → m.state ≡ state → m.node ≡ key → (es : List (Option Entry)) → es ≡ with_slot_changed (entry_with m) entries event → count < 2 ^ 62 → IsSound es (with_pred_counted label pred pushed) (count + 1)
+    put_with_node key n vacant absent of_event of_state same edges_of_n pushed change m m_state m_node es es_is room =
         let edge : Edge = record { pred = pred; label = label; count = 1 } in
         let apart = vacant_key_differs key vacant in
         let middle = counted_sound pred carries in
@@ -194,6 +195,7 @@ module _ (entries : List (Option Entry)) (nodes : List (Option Node)) (count : �
               IsIndexed-add_node entries (with_pred_counted label pred nodes) middle.indexed (with_pred_counted label pred pushed) es key n entry m
               there later (ap (slot_at entries) of_event ∙ found_entry) (ap (find_member entry.members) of_state ∙ absent)
               (m_state ∙ sym of_state) m_node (position_is ∙ sym same) entry_changes;
+          few = omega (arith, room);
           edges =
               omega (
                 arith,
@@ -341,10 +343,10 @@ module _ (entries : List (Option Entry)) (nodes : List (Option Node)) (count : �
           subst (λ (x : Edge). x.count + 1 < 2 ^ 64) e (carried p is).room
 
       module _ (last : List (Option Node)) (last_is : last ≡ with_pred_counted label pred pushed) where
-        pub pushed_sound : IsSound entries last (count + 1)
-        pushed_sound =
+        pub pushed_sound : count < 2 ^ 62 → IsSound entries last (count + 1)
+        pushed_sound room =
             subst (λ (xs : List (Option Node)). IsSound entries xs (count + 1)) (sym last_is)
-            (put_on_node entries nodes count sound entry.row.position label event state entry entry_there refl can.apart pred carried key own.0 own.1 own.2 own.3 own.4 pushed push)
+            (put_on_node entries nodes count sound entry.row.position label event state entry entry_there refl can.apart pred carried key own.0 own.1 own.2 own.3 own.4 pushed push room)
 
         pub pushed_puts : Puts (record { events = rows entries; nodes = nodes }) (record { events = rows entries; nodes = last }) stage state event pred label key
         pushed_puts =
@@ -381,11 +383,11 @@ module _ (entries : List (Option Entry)) (nodes : List (Option Node)) (count : �
         subst (λ (x : Edge). x.count + 1 < 2 ^ 64) e (carried p is).room
 
     module _ (es : List (Option Entry)) (es_is : es ≡ with_slot_changed (entry_with (record { state = state; node = key })) entries event) (last : List (Option Node)) (last_is : last ≡ with_pred_counted label pred filled) where
-      pub filled_sound : IsSound es last (count + 1)
-      filled_sound =
+      pub filled_sound : count < 2 ^ 62 → IsSound es last (count + 1)
+      filled_sound room =
           subst (λ (xs : List (Option Node)). IsSound es xs (count + 1)) (sym last_is)
           (put_with_node entries nodes count sound entry.row.position label event state entry entry_there refl can.apart pred carried key _ vacant absent refl refl refl single filled fill
-          (record { state = state; node = key }) refl refl es es_is)
+          (record { state = state; node = key }) refl refl es es_is room)
 
       pub filled_puts : Puts (record { events = rows entries; nodes = nodes }) (record { events = rows es; nodes = last }) stage state event pred label key
       filled_puts =

@@ -1,10 +1,10 @@
 -- What is true of every buffer, after every list of calls that meet their conditions (this project's own).
-use Rattle.std.specs.Prelude.{◌≡◌, ℕ, ◌+◌, ◌<◌, true, false, List, length, Option, Some}
+use Rattle.std.specs.Prelude.{◌≡◌, ℕ, ◌+◌, ◌<◌, ◌≤◌, ◌^◌, true, false, List, length, Option, Some}
 use Rattle.dewey_version.specs.Version.{begins}
 use Rattle.shared_buffer.specs.Lists.{Lists}
 use Rattle.shared_buffer.specs.Slots.{slot_at}
 use Rattle.shared_buffer.specs.Content.{Content, IsUsed, HasPosition}
-use Rattle.shared_buffer.specs.Graph.{successors, Stands, IsPrefixFree}
+use Rattle.shared_buffer.specs.Graph.{successors, edge_total, Stands, IsPrefixFree}
 use Rattle.shared_buffer.specs.Chain.{holds, IsNeeded}
 use Rattle.shared_buffer.specs.declared.edges.Edge.{Edge}
 use Rattle.shared_buffer.specs.declared.node.Node.{Node}
@@ -42,5 +42,7 @@ pub record IsConsistent (buffer : Content) : Type 0 where
       → edge.pred ≡ Some pred → HasOneEdgeFor buffer.nodes pred node.position edge.label
   -- each edge is on the chain of an edge that has a hold
   pub needed : (key : ℕ) (edge : Edge) → Stands buffer.nodes key edge → IsNeeded buffer.nodes (holds buffer.nodes) key edge
+  -- there are not more edges than a memory can have
+  pub few : edge_total buffer.nodes ≤ 2 ^ 62
   -- an event without a pin has a node
   pub used : (key : ℕ) (row : Standing) → slot_at buffer.events key ≡ Some row → row.pinned ≡ false → IsUsed buffer.nodes key

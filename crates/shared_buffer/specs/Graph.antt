@@ -1,7 +1,7 @@
 -- What holds of every buffer: its nodes form a counted graph, and its events know their nodes (after the shared match
 -- buffer with reference counts of Agrawal, Diao, Gyllstrom and Immerman; one node for a state and an event is this
 -- project's own).
-use Rattle.std.specs.Prelude.{◌≡◌, ℕ, ◌<◌, ◌≤◌, ◌==◌, Bool, true, false, ◌&&◌, List, [], ◌∷◌, length, Option, Some, None, sum_by, count_by}
+use Rattle.std.specs.Prelude.{◌≡◌, ℕ, ◌<◌, ◌≤◌, ◌^◌, ◌==◌, Bool, true, false, ◌&&◌, List, [], ◌∷◌, length, Option, Some, None, sum_by, count_by}
 use Rattle.dewey_version.specs.Version.{begins}
 use Rattle.shared_buffer.specs.Lists.{Lists}
 use Rattle.shared_buffer.specs.Slots.{slot_at}
@@ -96,3 +96,4 @@ pub record IsSound (entries : List (Option Entry)) (nodes : List (Option Node)) 
   pub graph : IsGraph nodes
   pub indexed : IsIndexed entries nodes
   pub edges : edge_count ≡ edge_total nodes
+  pub few : edge_count ≤ 2 ^ 62

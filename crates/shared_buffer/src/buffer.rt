@@ -23,6 +23,9 @@ use slab::Slab;
 use std::alloc::Global;
 use std::marker::Model;
 
+/// How many edges a buffer has at most. No memory holds so many.
+const MOST_EDGES: u64 = 1 << 62;
+
 /// Events, and the nodes and edges over them that partial matches share.
 #[derive(Drop)]
 pub struct Buffer {
@@ -121,7 +124,7 @@ impl Buffer {
 
     /// Adds an edge to the node of the state on the event, with one hold of the caller's. The node is made
     /// where it is not there yet. The edge stands on the predecessor's edge that its label goes on from,
-    /// which is counted one higher. Beside want of memory, 2^64 - 1 edges are refused as such.
+    /// which is counted one higher. Beside want of memory, an edge more than 2^62 is refused as such.
     pub fn put(
         &mut self,
         stage: u16,
@@ -139,7 +142,7 @@ impl Buffer {
         ensures consistent { IsConsistent self.new }
     {
         self.facts();
-        if self.edge_count == u64::MAX {
+        if self.edge_count >= MOST_EDGES {
             return Err(NoMemory);
         }
         let edge = Edge {

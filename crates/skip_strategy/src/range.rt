@@ -12,6 +12,7 @@ use cep_plan::{Skip, Taken, TakenList};
 pub fn ranged(from: u32, to: u32) -> Option<(u32, u32)>
     ensures positions { (position : ℕ) → is_in result position ≡ is_in (Some (from, to)) position }
     ensures some { IfSome result (λ range. range.0 < range.1) }
+    ensures from { IfSome result (λ range. range.0 ≡ from) }
 {
     if from < to { Some((from, to)) } else { None }
 }
@@ -94,6 +95,7 @@ pub fn last_for(list: &TakenList, stage: u16) -> Option<u32>
 pub fn only(position: Option<u32>) -> Option<(u32, u32)>
     ensures positions { IfSome position (λ p. p < 2 ^ 32 - 1) → (start : ℕ) → is_in result start ≡ is_same position start }
     ensures some { IfSome result (λ range. range.0 < range.1) }
+    ensures from { IfSome result (λ range. position ≡ Some range.0) }
 {
     match position {
         None => None,
@@ -106,6 +108,7 @@ pub fn only(position: Option<u32>) -> Option<(u32, u32)>
 pub fn through(from: Option<u32>, to: Option<u32>) -> Option<(u32, u32)>
     ensures positions { IfSome to (λ p. p < 2 ^ 32 - 1) → (start : ℕ) → is_in result start ≡ is_from_to from to start }
     ensures some { IfSome result (λ range. range.0 < range.1) }
+    ensures from { IfSome result (λ range. from ≡ Some range.0) }
 {
     match (from, to) {
         (Some(from), Some(to)) => ranged(from, behind(to)),
@@ -117,6 +120,7 @@ pub fn through(from: Option<u32>, to: Option<u32>) -> Option<(u32, u32)>
 pub fn up_to(from: Option<u32>, to: Option<u32>) -> Option<(u32, u32)>
     ensures positions { (start : ℕ) → is_in result start ≡ is_from_below from to start }
     ensures some { IfSome result (λ range. range.0 < range.1) }
+    ensures from { IfSome result (λ range. from ≡ Some range.0) }
 {
     match (from, to) {
         (Some(from), Some(to)) => ranged(from, to),
@@ -124,11 +128,12 @@ pub fn up_to(from: Option<u32>, to: Option<u32>) -> Option<(u32, u32)>
     }
 }
 
-/// The starts that a match kills, by the skip strategy: from the first number on, and below the second one. `None` comes exactly where it kills none.
+/// The starts that a match kills, by the skip strategy: from the first number on, which is the match's own start, and below the second one. `None` comes exactly where it kills none.
 /// The positions of the match are below 2^32 - 1, as all positions are.
 pub fn cut(skip: Skip, list: &TakenList) -> Option<(u32, u32)>
     ensures positions { Each (λ t. t.position < 2 ^ 32 - 1) list.now → (start : ℕ) → is_in result start ≡ kills_start skip list.now start }
     ensures some { IfSome result (λ range. range.0 < range.1) }
+    ensures from { IfSome result (λ range. start_of list.now ≡ Some range.0) }
 {
     match skip {
         Skip::No => None,

@@ -2,8 +2,6 @@
 #![tactic(auto)]
 
 mod order;
-#[cfg(test)]
-mod tests;
 mod waiting;
 
 pub use order::{Arrived, Order};

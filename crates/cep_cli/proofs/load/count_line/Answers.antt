@@ -1,40 +1,32 @@
-use Rattle.std.proofs.Common.{◌≡◌, sym, ◌∙◌, ap, ◌+◌, ◌++◌, ◌∷◌, [], ◌<◌, ◌^◌, ◌-◌, length, arith}
-use Rattle.std.specs.Prelude.{Ok}
-use Rattle.cep_plan.specs.EventTime.{arrivals_of}
+use Rattle.std.proofs.Common.{◌≡◌, sym, ◌∙◌, ap, subst, ◌+◌, ◌++◌, ◌∷◌, [], length, arith}
+use Rattle.std.specs.Prelude.{Ok, IsOk, false}
+use Rattle.cep_records.specs.Numbered.{AreNumbered}
+use Rattle.event_pipeline.specs.Told.{told_of}
 use Rattle.cep_cli.specs.Records.{record_in, records_of}
 use Rattle.cep_cli.proofs.RowLaws.{comes_behind}
-use Rattle.cep_cli.proofs.BegunLaws.{lag_of, numbered}
-use Rattle.cep_cli.proofs.LoadLaws.{counted-line}
+use Rattle.cep_cli.proofs.BegunLaws.{numbered, records-length}
+use Rattle.cep_cli.proofs.LoadLaws.{counted-line, told-counted}
 use Rattle.cep_cli.proofs.load.count_line.Goals as goal
 
 pub read_next-requires-clause-numbered : goal.read_next-requires-clause-numbered
-read_next-requires-clause-numbered c = numbered c.args.run.now.engine.plan c.requires.ready.1.run.usable
+read_next-requires-clause-numbered c =
+    let r = c.requires.ready in subst (λ p. AreNumbered p.types) (sym (c.plan.ensures r.0 r.1 _ r.3.passed)) (numbered r.1 r.4)
 
-pub count_record-requires-clause-room : goal.count_record-requires-clause-room
-count_record-requires-clause-room c = let run = c.requires.ready.1.run in omega (arith, run.within, run.counted, c.requires.ready.2)
+pub read_next-requires-clause-accepted : goal.read_next-requires-clause-accepted
+read_next-requires-clause-accepted c =
+    let r = c.requires.ready in subst (λ p. IsOk (record_in false p.types c.args.row c.args.line.now)) (sym (c.plan.ensures r.0 r.1 _ r.3.passed)) r.6
 
-pub count_record-requires-clause-rows : goal.count_record-requires-clause-rows
-count_record-requires-clause-rows c =
-    let lines = c.requires.ready.0 in
-    let run = c.requires.ready.1.run in
-    let s = c.args.run.now in
-    let read : record_in s.header s.engine.plan.types (length lines + 1) c.args.line.now ≡ Ok c.in_ok-next.next =
-    ap (λ k. record_in s.header s.engine.plan.types (k + 1) c.args.line.now) (sym run.counted) ∙ c.in_ok-next.ensures in
-    comes_behind s.header s.order.lag s.engine.plan.types lines c.args.line.now c.in_ok-next.next s.order.waiting (ap (λ o. o.waiting) run.ordered) read
+pub take-requires : goal.take-requires
+take-requires c =
+    let r = c.requires.ready in
+    let plan = c.plan.ensures r.0 r.1 _ r.3.passed in
+    let read : record_in false r.1.types (length r.2 + 1) c.args.line.now ≡ Ok c.in_ok-next.next = (λ i. record_in false (sym plan i).types (sym r.5 i) c.args.line.now) ∙ c.in_ok-next.ensures in
+    (r.0, r.1, records_of false r.1.types r.2, r.3.passed, comes_behind false r.1.types r.2 c.args.line.now c.in_ok-next.next read, omega (arith, records-length false r.1.types r.2, r.5, c.ranges.row))
 
-pub returns-clause-counted : goal.returns-clause-counted
-returns-clause-counted c = λ lines h.
-    let s = c.args.run.now in
-    let lag = s.order.lag in
-    let records = records_of s.header s.engine.plan.types lines in
-    let few : length lines < 2 ^ 32 - 1 = omega (arith, c.requires.ready.2, c.requires.ready.1.run.counted, h.run.counted) in
-    let e = c.in_ok-made.ensures in
-    counted-line lines c.args.line.now c.in_ok-next.next s.header c.count_record.new.run.header s.order c.count_record.new.run.order s.engine c.count_record.new.run.engine s.handled c.args.counts c.in_ok-made.made h e.header few
-    c.in_ok-next.ensures e.plan (e.counts lag records h.run.ordered h.run.ticked h.run.handed) (e.order lag records h.run.ordered h.run.ticked) (e.engine lag records h.run.ordered h.run.ticked) e.items e.running e.grown
-
-pub returns-clause-lag : goal.returns-clause-lag
-returns-clause-lag c =
-    let run = c.requires.ready.1.run in
-    let s = c.args.run.now in
-    let records = records_of s.header s.engine.plan.types c.requires.ready.0 in
-    lag_of s.order.lag (arrivals_of s.order.lag (records ++ c.in_ok-next.next ∷ [])) c.count_record.new.run.order (c.in_ok-made.ensures.order s.order.lag records run.ordered run.ticked)
+pub returns-in-Ok : goal.returns-in-Ok
+returns-in-Ok c = λ lag plan lines h is.
+    let same = c.plan.ensures lag plan _ h.passed in
+    let read : record_in false plan.types (length lines + 1) c.args.line.now ≡ Ok c.in_ok-next.next = (λ i. record_in false (sym same i).types (sym is i) c.args.line.now) ∙ c.in_ok-next.ensures in
+    let handled = c.in-Ok.ensures lag plan (records_of false plan.types lines) h.passed in
+    counted-line lag plan c.args.pipeline.now c.take.new.self c.args.counts.now c.take.new.to lines c.args.line.now c.in_ok-next.next h read handled.0
+    (told-counted _ _ (told_of lag plan (records_of false plan.types lines) c.in_ok-next.next) handled.1)

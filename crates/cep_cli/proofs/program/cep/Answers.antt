@@ -8,7 +8,8 @@ use Rattle.cep_words.specs.Words.{command_of}
 use Rattle.cep_words.specs.declared.options.Options.{Options}
 use Rattle.cep_cli.specs.Load.{load_summary}
 use Rattle.cep_cli.specs.Meaning.{meaning_of}
-use Rattle.cep_cli.specs.Verdict.{IsVerdict, IsShownVerdict, HasPrinted}
+use Rattle.cep_cli.specs.Pattern.{AreRefused}
+use Rattle.cep_cli.specs.Verdict.{IsVerdict, IsShownVerdict, IfOfInput, HasPrinted}
 use Rattle.cep_cli.proofs.StopLaws.{nothing_yet}
 use Rattle.cep_cli.proofs.WordLaws.{same_options, same_name}
 use Rattle.cep_cli.proofs.program.cep.Goals as goal
@@ -125,4 +126,29 @@ returns-clause-loaded g c = λ options name content plan named load told planned
       | in-Err-NoMemory w ↦
           subst (λ s. HasPrinted s (g.K.Sink.taken c.args.output.now) (g.K.Sink.taken c.match-command.output) (load_summary options plan)) (sym w.status-is)
           (subst (λ o. HasPrinted statuses.NoMemory (g.K.Sink.taken c.args.output.now) (g.K.Sink.taken o) (load_summary options plan)) (sym w.output-is) (nothing_yet (g.K.Sink.taken c.args.output.now) (load_summary options plan)))
+    ]
+
+pub returns-clause-spared : goal.returns-clause-spared
+returns-clause-spared g c = λ options name content fault named told refused.
+    elim c.match-command.branch [
+      | in-Ok w ↦
+          let asked = w.in-Ok.ensures.named in
+          let own : w.in-Ok.options ≡ options = same_options (command_of (map string_bytes c.args.words.now)) _ _ _ _ asked named in
+          let same : w.in-Ok.name.now ≡ name = same_name (command_of (map string_bytes c.args.words.now)) _ _ _ _ asked named in
+          let u = w.under_file-status in
+          let kept = u.ensures.spared content fault (ap (λ (n : List ℕ). g.F.Files.contents c.args.files.now n) same ∙ told) (subst (λ (o : Options). AreRefused o.mode content fault) (sym own) refused) in
+          (w.input-is ∙ kept.0, w.output-is ∙ kept.1)
+      | in-Err-Bad w ↦ let none : command_of (map string_bytes c.args.words.now) ≡ None = search rules in cc (none, named)
+      | in-Err-NoMemory w ↦ (w.input-is, w.output-is)
+    ]
+
+pub returns-clause-shown : goal.returns-clause-shown
+returns-clause-shown g c = λ options name named shown.
+    elim c.match-command.branch [
+      | in-Ok w ↦
+          let asked = w.in-Ok.ensures.named in
+          let own : w.in-Ok.options ≡ options = same_options (command_of (map string_bytes c.args.words.now)) _ _ _ _ asked named in
+          subst (λ s. IfOfInput s ⊥) (sym w.status-is) (w.under_file-status.ensures.shown (λ run. shown (ap (λ (o : Options). o.mode) (sym own) ∙ run)))
+      | in-Err-Bad w ↦ let none : command_of (map string_bytes c.args.words.now) ≡ None = search rules in cc (none, named)
+      | in-Err-NoMemory w ↦ subst (λ s. IfOfInput s ⊥) (sym w.status-is) tt
     ]

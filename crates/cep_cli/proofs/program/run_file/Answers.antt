@@ -34,3 +34,6 @@ pub returns-in-Err-clause-complete : goal.returns-in-Err-clause-complete
 returns-in-Err-clause-complete g c = λ content all before told left taken no_file no_read no_write memory.
     let f = fault-told (ArePlannedAs content) c.in-Err.stop c.status.result c.status.ensures.told (c.in-Err.ensures.told content told) (λ failed. no_file (c.in-Err.ensures.failed (ap (λ w. Err w) failed))) memory in
     (Err f.0, f.1, f.2)
+
+pub returns-in-Ok-clause-spared : goal.returns-in-Ok-clause-spared
+returns-in-Ok-clause-spared g c = λ content fault told refused. absurd (refused-not-accepted (ArePlannedAs content) (one_planned content) c.in-Ok.plan fault (c.in-Ok.ensures.told content told) refused)

@@ -5,7 +5,7 @@ use Rattle.cep_session.specs.declared.status.Status.TheVariants as status
 use Rattle.cep_cli.specs.Pattern.{AreShownAs}
 use Rattle.cep_cli.specs.Verdict.{HasPrinted}
 use Rattle.cep_cli.proofs.PatternLaws.{one_shown}
-use Rattle.cep_cli.proofs.StopLaws.{refused-stops, refused-not-accepted, same-accepted, accepted-stops, fault-told, printed-nothing}
+use Rattle.cep_cli.proofs.StopLaws.{refused-stops, refused-not-accepted, same-accepted, accepted-stops, fault-told, printed-nothing, stopped-unread, shown-unread}
 use Rattle.cep_cli.proofs.program.show_file.Goals as goal
 
 pub returns-in-Ok-clause-refused_pattern : goal.returns-in-Ok-clause-refused_pattern
@@ -37,3 +37,13 @@ pub returns-in-Err-clause-complete : goal.returns-in-Err-clause-complete
 returns-in-Err-clause-complete g c = λ content told no_file no_write memory.
     let f = fault-told (AreShownAs c.args.form content) c.in-Err.stop c.status.result c.status.ensures.told (c.in-Err.ensures.told content told) (λ failed. no_file (c.in-Err.ensures.failed (ap (λ w. Err w) failed))) memory in
     (Err f.0, f.1, f.2)
+
+pub returns-in-Ok-clause-shown : goal.returns-in-Ok-clause-shown
+returns-in-Ok-clause-shown g c = shown-unread c.write_text.result c.write_text.ensures.status
+
+pub returns-in-Err-clause-shown : goal.returns-in-Err-clause-shown
+returns-in-Err-clause-shown g c = stopped-unread c.in-Err.stop c.status.result c.status.ensures.told
+
+pub returns-in-Ok-clause-spared : goal.returns-in-Ok-clause-spared
+returns-in-Ok-clause-spared g c = λ content fault told refused.
+    absurd (refused-not-accepted (AreShownAs c.args.form content) (one_shown c.args.form content) c.in-Ok.text fault (c.in-Ok.ensures.told content told) refused)

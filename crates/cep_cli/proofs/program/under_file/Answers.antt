@@ -32,3 +32,6 @@ returns-in-Load-clause-loaded g c = λ content plan load told planned. c.show_fi
 pub returns-in-Load-clause-complete_shown : goal.returns-in-Load-clause-complete_shown
 returns-in-Load-clause-complete_shown g c = λ content shown told no_file no_write memory.
     subst (λ m. IsShownVerdictIn m c.args.options content c.show_file-in-Load.result) (sym c.in-Load.is) (c.show_file-in-Load.ensures.complete content told no_file no_write memory)
+
+pub returns-in-Run-clause-shown : goal.returns-in-Run-clause-shown
+returns-in-Run-clause-shown g c = λ shown. absurd (shown c.in-Run.is)

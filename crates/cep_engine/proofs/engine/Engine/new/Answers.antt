@@ -1,25 +1,50 @@
-use Rattle.std.proofs.Common.{◌≡◌, refl, ◌∙◌, ℕ, true, []}
+use Rattle.std.proofs.Common.{◌≡◌, refl, sym, ◌∙◌, ap, subst, ℕ, true, []}
 use Rattle.std.specs.Prelude.{Option, Some, None}
+use Rattle.cep_plan.specs.declared.plan.Plan.{Plan}
 use Rattle.cep_plan.specs.Skipping.{kept}
 use Rattle.cep_plan.specs.History.{history}
-use Rattle.time_limit.specs.Limits.{limited}
-use Rattle.cep_engine.specs.Standing.{open_after}
+use Rattle.shared_buffer.specs.Content.{Content as BufferContent}
+use Rattle.run_step.specs.Content.{Content}
+use Rattle.run_step.specs.Runs.{StandsNow}
+use Rattle.time_limit.specs.Limits.{Kept, limited}
+use Rattle.cep_engine.specs.Running.{RunsStand}
+use Rattle.cep_engine.specs.Standing.{open_after, PartsStand}
 use Rattle.cep_engine.proofs.engine.Engine.new.Goals as goal
 
 none_kept : (within : Option ℕ) → [] ≡ limited within []
 none_kept None = refl
 none_kept (Some w) = refl
 
-pub returns-clause-stands : goal.returns-clause-stands
+-- before the first tick
+first_parts : (plan : Plan) (content : Content) (buffer : BufferContent) (saved : Kept) → StandsNow plan [] (open_after plan []) [] content (record { events = []; nodes = [] }) → buffer ≡ record { events = []; nodes = [] }
+    → saved ≡ record { within = plan.within; starts = [] } → PartsStand plan [] content buffer saved
 unfolding kept history
-returns-clause-stands c = record {
-  parts = record {
-    runs = c.in_ok-runs.ensures c.args.plan (open_after c.args.plan []) c.in_ok-nfa.ensures;
-    limits = c.new-limits.ensures ∙ (λ i. record { within = c.args.plan.within; starts = none_kept c.args.plan.within i });
-    below = tt;
+first_parts plan content buffer saved now empty none = record {
+  runs = subst (λ (b : BufferContent). RunsStand plan [] (open_after plan []) content b) (sym empty) (record { now = now; settled = λ key row found. let no : None ≡ Some row = found in absurd cc });
+  limits = none ∙ (λ i. record { within = plan.within; starts = none_kept plan.within i });
+  below = tt;
+}
+
+pub invariant_of-result : goal.invariant_of-result
+invariant_of-result c = record {
+  plan = c.requires.plan;
+  nfa = c.in_ok-nfa.ensures;
+  room = c.requires.within;
+  behind = λ _. ap (λ (k : Kept). k.starts) c.new-limits.ensures;
+  stands = λ _. record {
+    ticks = [];
+    stands = record {
+      parts = first_parts c.args.plan c.in_ok-runs.runs c.new-buffer.result c.new-limits.result (c.in_ok-runs.ensures.now c.args.plan (open_after c.args.plan []) c.in_ok-nfa.ensures) c.new-buffer.ensures.empty c.new-limits.ensures;
+      last = refl;
+    };
   };
+}
+
+pub returns-clause-stands : goal.returns-clause-stands
+returns-clause-stands c = record {
+  parts = first_parts c.args.plan c.in_ok-runs.runs c.new-buffer.result c.new-limits.result (c.in_ok-runs.ensures.now c.args.plan (open_after c.args.plan []) c.in_ok-nfa.ensures) c.new-buffer.ensures.empty c.new-limits.ensures;
   last = refl;
 }
 
 pub returns-clause-fresh : goal.returns-clause-fresh
-returns-clause-fresh c = (refl, refl, (c.in_ok-runs.ensures c.args.plan (λ _. true) c.in_ok-nfa.ensures).0, c.new-2.ensures, refl)
+returns-clause-fresh c = (refl, refl, (c.in_ok-runs.ensures.now c.args.plan (λ _. true) c.in_ok-nfa.ensures).stands.counted, c.new-items.ensures, refl)

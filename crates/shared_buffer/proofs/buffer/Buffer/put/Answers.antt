@@ -1,4 +1,4 @@
-use Rattle.std.proofs.Common.{◌≡◌, sym, Some, None}
+use Rattle.std.proofs.Common.{◌≡◌, sym, arith, Some, None}
 use Rattle.shared_buffer.specs.Members.{find_member}
 use Rattle.shared_buffer.proofs.PutLemmas.{node_stands, pushed_leads, pushed_room, pushed_sound, pushed_puts, pushed_adds, filled_leads, filled_room, filled_sound, filled_puts, filled_adds}
 use Rattle.shared_buffer.proofs.HeldLemmas.{HasHold-edge, KeepsHolds-edge}
@@ -30,6 +30,7 @@ invariant_of-self-in-Some c =
     pushed_sound c.self.inside.entries.slots c.self.inside.nodes.slots c.self.inside.edge_count c.self.invariant c.args.label.now c.args.stage c.args.state c.args.event c.slot.result
     c.index-entry.result.now c.slot.ensures c.index-entry.ensures c.args.pred (rw (← c.self.view_is) at c.requires) c.in-Some.node member
     c.in_ok-copy.field-0 c.in_ok-copy.ensures.same c.push_edge.new.nodes.slots c.in_ok-push_edge-in-Some.ensures.ok c.count_pred.new.nodes.slots c.count_pred.ensures
+    (omega arith)
 
 pub returns-in_ok-push_edge-in-Some-clause-ok : goal.returns-in_ok-push_edge-in-Some-clause-ok
 returns-in_ok-push_edge-in-Some-clause-ok c =
@@ -63,6 +64,7 @@ invariant_of-self-in-None c =
     absent c.in_ok-node-in-None.node c.reserve_node.new.nodes.slots c.in_ok-node-in-None.ensures.same c.in_ok-node-in-None.ensures.vacant
     c.in_ok-copy.field-0 c.in_ok-copy.ensures.same c.in_ok-edges-in-None.edges c.in_ok-edges-in-None.ensures c.fill_node.new.nodes.slots c.fill_node.ensures
     c.push_member.new.entries.slots c.in_ok-push_member-in-None.ensures.ok c.count_pred-in-None.new.nodes.slots c.count_pred-in-None.ensures
+    (omega arith)
 
 pub returns-in_ok-push_member-in-None-clause-ok : goal.returns-in_ok-push_member-in-None-clause-ok
 returns-in_ok-push_member-in-None-clause-ok c =

@@ -1,4 +1,0 @@
-mod loads;
-mod options;
-mod patterns;
-mod statuses;

@@ -1,0 +1,48 @@
+use cep_event::Moment;
+use std::test::Fail;
+use time_limit::Limits;
+
+#[test]
+fn a_start_is_due_at_its_limit(rt: HostRuntime) -> Result<(), Fail> {
+    let mut limits = Limits::new(rt.alloc(), Some(10));
+    limits.add(3, 100)?;
+    assert_eq!(rt; limits.next_due(Moment::At(109)), None);
+    assert_eq!(rt; limits.next_due(Moment::At(110)), Some(3));
+    assert_eq!(rt; limits.next_due(Moment::End), None);
+    Ok(())
+}
+
+#[test]
+fn a_range_of_starts_goes(rt: HostRuntime) -> Result<(), Fail> {
+    let mut limits = Limits::new(rt.alloc(), Some(10));
+    limits.add(3, 100)?;
+    limits.drop_range(0, 3);
+    assert_eq!(rt; limits.next_due(Moment::At(109)), None);
+    limits.drop_range(3, 4);
+    assert_eq!(rt; limits.next_due(Moment::End), None);
+    Ok(())
+}
+
+#[test]
+fn a_range_in_the_middle_goes(rt: HostRuntime) -> Result<(), Fail> {
+    let mut limits = Limits::new(rt.alloc(), Some(10));
+    limits.add(3, 100)?;
+    limits.add(5, 100)?;
+    limits.add(8, 101)?;
+    limits.add(9, 101)?;
+    limits.drop_range(5, 9);
+    limits.drop_range(9, 9);
+    limits.drop_range(9, 4);
+    assert_eq!(rt; limits.next_due(Moment::End), Some(3));
+    assert_eq!(rt; limits.next_due(Moment::End), Some(9));
+    assert_eq!(rt; limits.next_due(Moment::End), None);
+    Ok(())
+}
+
+#[test]
+fn without_a_limit_nothing_is_due(rt: HostRuntime) -> Result<(), Fail> {
+    let mut limits = Limits::new(rt.alloc(), None);
+    limits.add(3, 100)?;
+    assert_eq!(rt; limits.next_due(Moment::End), None);
+    Ok(())
+}

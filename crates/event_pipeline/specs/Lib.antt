@@ -1,0 +1,5 @@
+pub mod Told
+pub mod Telling
+pub mod Running
+pub mod Ticks
+pub mod Handled
