@@ -1,5 +1,5 @@
 #!/usr/bin/env python3
-"""Runs a command over a file and prints its seconds, its greatest memory in MB and the number of lines that it printed.
+"""Runs a command over a file and prints its seconds, processor seconds, greatest memory in MB and the number of lines that it printed.
 
 usage: measured.py INPUT COMMAND [WORD ..]
 """
@@ -16,8 +16,8 @@ def main():
         lines = sum(piece.count(b"\n") for piece in iter(lambda: run.stdout.read(1 << 16), b""))
         status = run.wait()
     seconds = time.monotonic() - start
-    megabytes = resource.getrusage(resource.RUSAGE_CHILDREN).ru_maxrss // 1024
-    print(f"{seconds:.2f} s, {megabytes} MB, {lines} lines" + (f", status {status}" if status else ""))
+    used = resource.getrusage(resource.RUSAGE_CHILDREN)
+    print(f"{seconds:.2f} s, {used.ru_utime + used.ru_stime:.2f} processor s, {used.ru_maxrss // 1024} MB, {lines} lines" + (f", status {status}" if status else ""))
 
 
 if __name__ == "__main__":

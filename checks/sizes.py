@@ -6,7 +6,7 @@ one edge for each front of a living list, and one node for each state and last p
 the program.
 usage: sizes.py                            counts a small example, whose sizes are known
        sizes.py PROGRAM [CASES [SEED]]     compares what `load` prints of random patterns with what is counted
-       sizes.py --rows CASES [SEED]        prints random patterns, their input and the sizes, as rows of a test
+       sizes.py --rows CASES [SEED]        prints random patterns, their input and the sizes one after another, as rows of a test
 """
 import random
 import sys
@@ -94,7 +94,13 @@ def compares(program, cases, dice):
 
 
 def bytes_of(text):
-    return 'b"' + text.replace("\\", "\\\\").replace('"', '\\"').replace("\n", "\\n") + '"'
+    """A literal, whose lines are broken where a pattern's parts begin."""
+    lines = [""]
+    for part in text.replace("\\", "\\\\").replace('"', '\\"').replace("\n", "\\n").replace(").", ")\n.").split("\n"):
+        if lines[-1] and len(lines[-1]) + len(part) > 120:
+            lines.append("")
+        lines[-1] += part
+    return 'b"' + "\n".join(lines) + '"'
 
 
 def rows(cases, dice):
@@ -108,7 +114,7 @@ def rows(cases, dice):
             continue
         cases -= 1
         print(f"    Row {{\n        lag: {'None' if lag is None else f'Some({lag})'},\n        file: {bytes_of(text)},\n        input: {bytes_of(lines)},")
-        print(f"        sizes: &[{', '.join(map(str, sizes))}],\n    }},")
+        print(f"        sizes: &[{', '.join(str(number) for size in sizes for number in size)}],\n    }},")
     return 0
 
 

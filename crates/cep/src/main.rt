@@ -1,7 +1,7 @@
 //! The program: the real files and streams, and the call that does the work.
 #![tactic(auto)]
 
-use cep_cli::{Status, cep, number, tell};
+use cep_cli::{NoGauge, Status, cep, number, tell};
 use cep_outside::{DiskFiles, StdSink, StdSource};
 use std::env;
 use std::io::ErrorKind;
@@ -47,6 +47,7 @@ fn main(rt: HostRuntime) -> ExitCode {
         &mut input,
         &mut output,
         &mut notes,
+        &mut NoGauge,
     );
     ExitCode::from(number(&status))
 }

@@ -16,3 +16,5 @@ pub mod WrittenLaws
 pub mod SummaryLaws
 -- What a load run has counted. Cited by `load`.
 pub mod LoadLaws
+-- Who never fails is never blamed. Cited by `cep_in_memory`.
+pub mod SureLaws

@@ -1,6 +1,6 @@
 -- What a load run has counted, one record after another.
 use Rattle.std.proofs.Common.{◌≡◌, refl, sym, ◌∙◌, ap, subst, ℕ, ◌+◌, ◌≤◌, ◌<◌, ◌-◌, ◌^◌, append-nil, append_assoc, map, Bool, false, not, ◌&&◌, List, [], ◌∷◌, ◌++◌, length, length-append, Option, None, arith}
-use Rattle.std.specs.Prelude.{Result, Ok}
+use Rattle.std.specs.Prelude.{Result, Ok, Err, max}
 use Rattle.std.specs.List.{count_by, list_any}
 use Rattle.std.specs.Option.{option_to_list}
 use Rattle.std.specs.Str.{bytes_eq}
@@ -21,19 +21,29 @@ use Rattle.event_pipeline.specs.Handled.{HasHandled}
 use Rattle.event_pipeline.specs.Telling.{AreTold}
 use Rattle.event_pipeline.specs.Told.{Told, late_told, item_told, late_in, kept_items, added_items, told_of, told_at_end}
 use Rattle.event_pipeline.proofs.TickLaws.{added-more, kept_items-append}
+use Rattle.event_pipeline.specs.Shown.{sizes_added}
+use Rattle.event_pipeline.proofs.ShownLaws.{greatest_held-append}
+use Rattle.cep_session.specs.Meaning.{Flow, sofar, sofar_from, whole}
+use Rattle.cep_session.proofs.Laws.{sofar-push, sofar_from-append}
+use Rattle.shared_buffer.specs.declared.buffer.Held.{Held}
+use Rattle.sharing_laws.specs.Sizes.{greatest_held}
+use Rattle.told_list.specs.Grows.{Grows, GrowsPart}
+use Rattle.told_list.proofs.GrowsLaws.{Grows-trans, GrowsPart-nil, GrowsPart-whole, GrowsPart-more, GrowsPart-later}
 use Rattle.pattern_check.specs.Names.{are_distinct as differ}
 use Rattle.pattern_file.specs.Usable.{IsUsable}
 use Rattle.watermark_order.specs.Order.{event_times}
 use Rattle.watermark_order.proofs.RecordLaws.{ticks_of-nothing, ticks_of-blank, ticks_of-mark, ticks_of-row}
 use Rattle.cep_cli.specs.declared.load.Counts.{Counts}
-use Rattle.cep_cli.specs.Counted.{HasCounted, counted_more, counted_all, counts_before_end}
+use Rattle.cep_cli.specs.Counted.{HasCounted, ShowsMost, counted_more, counted_all, counts_before_end}
 use Rattle.cep_cli.specs.Load.{counts_of, is_match, is_timeout, late_rows, whole_counts}
-use Rattle.cep_cli.specs.Records.{record_in, records_of}
+use Rattle.cep_cli.specs.Meaning.{sizes_of_lines}
+use Rattle.cep_cli.specs.Records.{record_in, record_or_blank, records_of}
 use Rattle.cep_cli.proofs.BegunLaws.{records-push}
 
 -- ---- counts of what is told
 
-pub told-counted : {C : Type 0} (a b : C × Counts) (told : List Told) → AreTold (λ (s t : C × Counts) one. t.1 ≡ counted_more s.1 one) a b told → b.1 ≡ counted_all a.1 told
+pub told-counted : {C : Type 0} (a b : C × Counts) (told : List Told) → AreTold (λ (s t : C × Counts) one. t.1 ≡ counted_more s.1 one) a b told
+    → b.1 ≡ counted_all a.1 told
 told-counted a b [] is = ap (λ s. s.1) is
 told-counted a b (x ∷ xs) (now, first, more) = told-counted now b xs more ∙ ap (λ c. counted_all c xs) first
 
@@ -47,7 +57,8 @@ count-append p xs ys = sum_by-append _ xs ys
 counted-late : (rows more : List ℕ) (items : List Item) → counted_all (counts_of rows items) (map late_told more) ≡ counts_of (rows ++ more) items
 counted-late rows [] items = ap (λ l. counts_of l items) (sym (append-nil rows))
 counted-late rows (row ∷ more) items =
-    ap (λ (n : ℕ). counted_all (record { late = n; matches = count_by is_match items; timeouts = count_by is_timeout items }) (map late_told more)) (sym (length-append rows (row ∷ [])))
+    ap (λ (n : ℕ). counted_all (record { late = n; matches = count_by is_match items; timeouts = count_by is_timeout items }) (map late_told more))
+    (sym (length-append rows (row ∷ [])))
     ∙ counted-late (rows ++ row ∷ []) more items
     ∙ ap (λ l. counts_of l items) (append_assoc rows (row ∷ []) more)
 
@@ -75,7 +86,8 @@ counted-items rows items (item ∷ more) =
 
 late_rows-push : (lag : Option ℕ) (before records : List LineRecord) (next : LineRecord)
     → late_rows lag before (records ++ next ∷ []) ≡ late_rows lag before records ++ option_to_list (late_in lag (before ++ records) next)
-late_rows-push lag before [] next = append-nil (option_to_list (late_in lag before next)) ∙ ap (λ l. option_to_list (late_in lag l next)) (sym (append-nil before))
+late_rows-push lag before [] next =
+    append-nil (option_to_list (late_in lag before next)) ∙ ap (λ l. option_to_list (late_in lag l next)) (sym (append-nil before))
 late_rows-push lag before (x ∷ records) next =
     let first = option_to_list (late_in lag before x) in
     let later = late_rows lag (before ++ x ∷ []) records in
@@ -92,16 +104,21 @@ kept-behind plan ticks all more is =
     ∙ ap (λ l. kept_items plan ticks ++ l) (sym (added-more plan ticks more) ∙ ap (added_items plan ticks) (sym is))
 
 kept-next : (plan : Plan) (lag : Option ℕ) (records : List LineRecord) (next : LineRecord)
-    → kept_items plan (ticks_of lag (records ++ next ∷ [])) ≡ kept_items plan (ticks_of lag records) ++ added_items plan (ticks_of lag records) (ticks_of lag (records ++ next ∷ []))
-kept-next plan lag records Blank = kept-behind plan (ticks_of lag records) (ticks_of lag (records ++ Blank ∷ [])) [] (ticks_of-blank lag records ∙ sym (append-nil (ticks_of lag records)))
-kept-next plan lag records (Mark time) = kept-behind plan (ticks_of lag records) (ticks_of lag (records ++ Mark time ∷ [])) (ticks_of_arrival (arrivals_of lag records) (marked time)) (ticks_of-mark lag records time)
+    → kept_items plan (ticks_of lag (records ++ next ∷ [])) ≡ kept_items plan (ticks_of lag records) ++ added_items plan (ticks_of lag records)
+    (ticks_of lag (records ++ next ∷ []))
+kept-next plan lag records Blank =
+    kept-behind plan (ticks_of lag records) (ticks_of lag (records ++ Blank ∷ [])) [] (ticks_of-blank lag records ∙ sym (append-nil (ticks_of lag records)))
+kept-next plan lag records (Mark time) = kept-behind plan (ticks_of lag records) (ticks_of lag (records ++ Mark time ∷ []))
+    (ticks_of_arrival (arrivals_of lag records) (marked time)) (ticks_of-mark lag records time)
 kept-next plan lag records (Row event) =
     kept-behind plan (ticks_of lag records) (ticks_of lag (records ++ Row event ∷ []))
-    (ticks_after (arrivals_of lag records ++ arrived event ∷ []) (marks_behind lag (event_times (arrivals_of lag records)) event.ts)) (ticks_of-row lag records event)
+    (ticks_after (arrivals_of lag records ++ arrived event ∷ []) (marks_behind lag (event_times (arrivals_of lag records)) event.ts))
+    (ticks_of-row lag records event)
 
 -- ---- one line more, and the end
 
-counts-next : (lag : Option ℕ) (plan : Plan) (records : List LineRecord) (next : LineRecord) → counted_all (counts_before_end lag plan records) (told_of lag plan records next) ≡ counts_before_end lag plan (records ++ next ∷ [])
+counts-next : (lag : Option ℕ) (plan : Plan) (records : List LineRecord) (next : LineRecord)
+    → counted_all (counts_before_end lag plan records) (told_of lag plan records next) ≡ counts_before_end lag plan (records ++ next ∷ [])
 counts-next lag plan records next =
     let rows = late_rows lag [] records in
     let late = option_to_list (late_in lag records next) in
@@ -112,12 +129,14 @@ counts-next lag plan records next =
     ∙ counted-items (rows ++ late) items more
     ∙ (λ i. counts_of (sym (late_rows-push lag [] records next) i) (sym (kept-next plan lag records next) i))
 
-counts-whole : (lag : Option ℕ) (plan : Plan) (records : List LineRecord) → counted_all (counts_before_end lag plan records) (told_at_end lag plan records) ≡ whole_counts lag plan records
+counts-whole : (lag : Option ℕ) (plan : Plan) (records : List LineRecord) → counted_all (counts_before_end lag plan records)
+    (told_at_end lag plan records) ≡ whole_counts lag plan records
 counts-whole lag plan records =
     counted-items (late_rows lag [] records) (kept_items plan (ticks_of lag records)) (added_items plan (ticks_of lag records) (all_ticks lag records))
     ∙ ap (counts_of (late_rows lag [] records)) (sym (kept-behind plan (ticks_of lag records) (all_ticks lag records) (ticks_of_end lag records) refl))
 
-pub counted-line : (lag : Option ℕ) (plan : Plan) (p q : Pipeline) (c d : Counts) (lines : List (List ℕ)) (line : List ℕ) (next : LineRecord) → HasCounted lag plan p c lines
+pub counted-line : (lag : Option ℕ) (plan : Plan) (p q : Pipeline) (c d : Counts) (lines : List (List ℕ)) (line : List ℕ) (next : LineRecord)
+    → HasCounted lag plan p c lines
     → record_in false plan.types (length lines + 1) line ≡ Ok next → HasHandled lag plan (records_of false plan.types lines ++ next ∷ []) q
     → d ≡ counted_all c (told_of lag plan (records_of false plan.types lines) next) → HasCounted lag plan q d (lines ++ line ∷ [])
 counted-line lag plan p q c d lines line next h read passed told =
@@ -125,7 +144,8 @@ counted-line lag plan p q c d lines line next h read passed told =
     let all = records-push false plan.types lines line next read in
     record {
       passed = subst (λ r. HasHandled lag plan r q) (sym all) passed;
-      counted = told ∙ ap (λ k. counted_all k (told_of lag plan records next)) h.counted ∙ counts-next lag plan records next ∙ ap (counts_before_end lag plan) (sym all);
+      counted = told ∙ ap (λ k. counted_all k (told_of lag plan records next)) h.counted ∙ counts-next lag plan records next
+          ∙ ap (counts_before_end lag plan) (sym all);
     }
 
 nothing-kept : (plan : Plan) → kept_items plan [] ≡ []
@@ -141,7 +161,8 @@ counted-nothing lag plan p c is passed = record {
 pub counted-end : (lag : Option ℕ) (plan : Plan) (p : Pipeline) (c d : Counts) (lines : List (List ℕ)) → HasCounted lag plan p c lines
     → d ≡ counted_all c (told_at_end lag plan (records_of false plan.types lines)) → d ≡ whole_counts lag plan (records_of false plan.types lines)
 counted-end lag plan p c d lines h told =
-    told ∙ ap (λ k. counted_all k (told_at_end lag plan (records_of false plan.types lines))) h.counted ∙ counts-whole lag plan (records_of false plan.types lines)
+    told ∙ ap (λ k. counted_all k (told_at_end lag plan (records_of false plan.types lines))) h.counted
+    ∙ counts-whole lag plan (records_of false plan.types lines)
 
 -- ---- the types of a usable plan
 
@@ -151,3 +172,60 @@ same_test (name ∷ names) = ap (λ b. not (list_any (bytes_eq name) names) && b
 
 pub named_types : (plan : Plan) → IsUsable plan → AreNamed plan.types
 named_types plan u = record { words = u.words; distinct = same_test (map (λ (t : EventType). t.name) plan.types) ∙ u.named.types }
+
+-- ---- what the gauge of a load is shown
+
+module _ (lag : Option ℕ) (plan : Plan) (lines : List (List ℕ)) (line : List ℕ) (next : LineRecord)
+    (read : record_in false plan.types (length lines + 1) line ≡ Ok next) where
+  -- a fact of the sizes that a line's record adds is one of those that the line adds
+  pub line-sizes : (P : List Held → Type 0) → P (sizes_added lag plan (records_of false plan.types lines) next)
+      → P ((sizes_of_lines false lag plan).caused lines line)
+  line-sizes P holds = subst (λ r. P (sizes_added lag plan (records_of false plan.types lines) r)) (sym (ap record_or_blank read)) holds
+
+-- nothing was shown
+pub none-shown : {E : Type 0} {e : E} (at : Option (List Held)) (sizes : List Held) (r : Result ℕ E) → r ≡ Err e → ShowsMost at at sizes r
+none-shown at sizes r is = subst (ShowsMost at at sizes) (sym is) (GrowsPart-nil at sizes)
+
+module _ (flow : Flow Held) (lines : List (List ℕ)) (line : List ℕ) (a m b : Option (List Held)) where
+  -- one line more
+  pub sizes-next : (greatest held most : ℕ) → Grows a m (sofar flow lines) × (greatest ≡ greatest_held (sofar flow lines))
+      → Grows m b (flow.caused lines line) × (held ≡ greatest_held (flow.caused lines line))
+      → most ≡ max greatest held → Grows a b (sofar flow (lines ++ line ∷ [])) × (most ≡ greatest_held (sofar flow (lines ++ line ∷ [])))
+  sizes-next greatest held most first second is =
+      subst (λ l. Grows a b l × (most ≡ greatest_held l)) (sym (sofar-push flow lines line)) (
+        Grows-trans a m b (sofar flow lines) (flow.caused lines line) first.0 second.0,
+        omega
+            (arith, is, first.1, second.1, greatest_held-append (sofar flow lines) (flow.caused lines line)),
+      )
+
+  -- a front of what the next line adds, before others
+  pub sizes-part : (others : List (List ℕ)) → Grows a m (sofar flow lines) → GrowsPart m b (flow.caused lines line)
+      → GrowsPart a b (sofar flow (lines ++ line ∷ others))
+  sizes-part others first part =
+      subst (GrowsPart a b) (sym (sofar_from-append flow [] lines (line ∷ others)))
+      (subst (GrowsPart a b) (append_assoc (sofar flow lines) (flow.caused lines line) (sofar_from flow (lines ++ line ∷ []) others))
+      (GrowsPart-more a b (sofar flow lines ++ flow.caused lines line) (sofar_from flow (lines ++ line ∷ []) others)
+      (GrowsPart-later a m b (sofar flow lines) (flow.caused lines line) first part)))
+
+module _ (flow : Flow Held) (lines : List (List ℕ)) (a m : Option (List Held)) where
+  -- no other line was handled
+  pub sizes-stopped : (others : List (List ℕ)) → Grows a m (sofar flow lines) → GrowsPart a m (sofar flow (lines ++ others))
+  sizes-stopped others first =
+      subst (GrowsPart a m) (sym (sofar_from-append flow [] lines others))
+      (GrowsPart-more a m (sofar flow lines) (sofar_from flow lines others) (GrowsPart-whole a m (sofar flow lines) first))
+
+  -- the end, with those of all lines before
+  pub sizes-end : (b : Option (List Held)) (greatest held most : ℕ) → Grows a m (sofar flow lines) × (greatest ≡ greatest_held (sofar flow lines))
+      → Grows m b (flow.owed lines) × (held ≡ greatest_held (flow.owed lines))
+      → most ≡ max greatest held → Grows a b (whole flow lines) × (most ≡ greatest_held (whole flow lines))
+  sizes-end b greatest held most first second is = (
+    Grows-trans a m b (sofar flow lines) (flow.owed lines) first.0 second.0,
+    omega (
+      arith,
+      is,
+      first.1,
+      second.1,
+      greatest_held-append
+          (sofar flow lines) (flow.owed lines),
+    ),
+  )

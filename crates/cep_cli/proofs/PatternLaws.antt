@@ -8,9 +8,7 @@ use Rattle.cep_plan.specs.declared.plan.Plan.{Plan}
 use Rattle.cep_syntax.specs.declared.file.File.{File}
 use Rattle.pattern_rules.specs.declared.rule.Fault.{Fault}
 use Rattle.pattern_file.specs.Checked.{AreCheckedAs, ArePlannedAs, ArePrintedAs}
-use Rattle.pattern_file.proofs.OnePlan.{one_planned, one_printed}
 use Rattle.nfa_compile.specs.Explained.{explained}
-use Rattle.cep_cli.specs.Load.{load_summary}
 use Rattle.cep_cli.specs.declared.pattern.Form.{Form}
 use Rattle.cep_cli.specs.declared.pattern.Form.TheVariants as form
 use Rattle.cep_cli.specs.declared.pattern.PatternStop.{PatternStop}
@@ -34,14 +32,16 @@ both_long front content long more = λ answer x. record {
   text = λ short. absurd (omega (arith, short, more));
 }
 
-cases : (content : List ℕ) (count : ℕ) → count ≡ min (length content) 65537 → (b : Bool) → leb (length content) 65536 ≡ b → ReadsAlike (take count content) content
+cases : (content : List ℕ) (count : ℕ) → count ≡ min (length content) 65537 → (b : Bool) → leb (length content) 65536 ≡ b
+    → ReadsAlike (take count content) content
 cases content count is true short = subst (λ l. ReadsAlike l content) (sym (take_all count content (all_of (length content) count is short))) (λ answer x. x)
 cases content count is false long =
     let more = is_long (length content) long in
     let full = full_room (length content) count is long in
     both_long (take count content) content (omega (arith, length-take-le count content (omega arith))) more
 
-pub front_reads : (told : Option (List ℕ)) (content : List ℕ) (count : ℕ) (room : List ℕ) → told ≡ Some content → length room ≡ 65537 → IsLoaded told count room → ReadsAlike (take count room) content
+pub front_reads : (told : Option (List ℕ)) (content : List ℕ) (count : ℕ) (room : List ℕ) → told ≡ Some content → length room ≡ 65537
+    → IsLoaded told count room → ReadsAlike (take count room) content
 front_reads told content count room is size loaded =
     let l = subst (λ (t : Option (List ℕ)). IsLoaded t count room) is loaded in
     subst (λ f. ReadsAlike f content) (sym l.1) (cases content count (l.0 ∙ ap (min (length content)) size) (leb (length content) 65536) refl)
@@ -67,7 +67,6 @@ module _ (front content : List ℕ) (alike : ReadsAlike front content) where
   pub shown : (f : Form) (a : Result (List ℕ) Fault) → AreShownAs f front a → AreShownAs f content a
   shown form.File a x = printed a x
   shown form.States a x = made_too explained a x
-  shown (form.Summary options) a x = made_too (load_summary options) a x
 
 pub tells_too : {T : Type 0} (P Q : Result T Fault → Type 0) → ((a : Result T Fault) → P a → Q a) → (r : Result T PatternStop) → Tells P r → Tells Q r
 tells_too P Q more (Ok v) x = more (Ok v) x
@@ -77,27 +76,24 @@ tells_too P Q more (Err (Refused place code)) x = more (Err (record { place = pl
 
 -- ---- bytes come to one text of a form
 
-module _ (bytes : List ℕ) where
+module _ (bytes : List ℕ) (one_planned : (a b : Result Plan Fault) → ArePlannedAs bytes a → ArePlannedAs bytes b → a ≡ b)
+    (one_printed : (a b : Result (List ℕ) Fault) → ArePrintedAs bytes a → ArePrintedAs bytes b → a ≡ b) where
   same_plan : (p q : Plan) → ArePlannedAs bytes (Ok p) → ArePlannedAs bytes (Ok q) → p ≡ q
-  same_plan p q x y = inner (one_planned bytes (Ok p) (Ok q) x y) where
+  same_plan p q x y = inner (one_planned (Ok p) (Ok q) x y) where
     inner : ◌≡◌ {A = Result Plan Fault} (Ok p) (Ok q) → p ≡ q
     inner h = cc
 
   never_both : (p : Plan) (e : Fault) → ArePlannedAs bytes (Ok p) → ArePlannedAs bytes (Err e) → ⊥
-  never_both p e x y = let bad = one_planned bytes (Ok p) (Err e) x y in cc
+  never_both p e x y = let bad = one_planned (Ok p) (Err e) x y in cc
 
   one_made : (made : Plan → List ℕ) (a b : Result (List ℕ) Fault) → AreMadeInto made bytes a → AreMadeInto made bytes b → a ≡ b
   one_made made (Ok s) (Ok t) (p, x, is) (q, y, it) = ap (λ h. Ok h) (is ∙ ap made (same_plan p q x y) ∙ sym it)
   one_made made (Ok s) (Err e) (p, x, is) y = absurd (never_both p e x y)
   one_made made (Err e) (Ok t) x (q, y, it) = absurd (never_both q e y x)
-  one_made made (Err d) (Err e) x y = wrapped (one_planned bytes (Err d) (Err e) x y) where
+  one_made made (Err d) (Err e) x y = wrapped (one_planned (Err d) (Err e) x y) where
     wrapped : ◌≡◌ {A = Result Plan Fault} (Err d) (Err e) → ◌≡◌ {A = Result (List ℕ) Fault} (Err d) (Err e)
     wrapped h = cc
 
-  pub one_shown_of : (f : Form) (a b : Result (List ℕ) Fault) → AreShownAs f bytes a → AreShownAs f bytes b → a ≡ b
-  one_shown_of form.File a b x y = one_printed bytes a b x y
-  one_shown_of form.States a b x y = one_made explained a b x y
-  one_shown_of (form.Summary options) a b x y = one_made (load_summary options) a b x y
-
-pub one_shown : (f : Form) (bytes : List ℕ) (a b : Result (List ℕ) Fault) → AreShownAs f bytes a → AreShownAs f bytes b → a ≡ b
-one_shown f bytes = one_shown_of bytes f
+  pub one_shown : (f : Form) (a b : Result (List ℕ) Fault) → AreShownAs f bytes a → AreShownAs f bytes b → a ≡ b
+  one_shown form.File a b x y = one_printed a b x y
+  one_shown form.States a b x y = one_made explained a b x y

@@ -30,7 +30,8 @@ row-if row false r s x y = y
 
 row-event : (row : ℕ) (time : ℤ) (type : ℕ) (values : Result (List Value) RowCause) → RowIs row (event_of row time type values)
 row-event row time type (Ok values) = λ event is. inner event is where
-  inner : (event : Event) → ◌≡◌ {A = Result LineRecord RowCause} (Ok (Row (record { row = row; ts = time; type_no = type; values = values }))) (Ok (Row event)) → event.row ≡ row
+  inner : (event : Event) → ◌≡◌ {A = Result LineRecord RowCause} (Ok (Row (record { row = row; ts = time; type_no = type; values = values })))
+      (Ok (Row event)) → event.row ≡ row
   inner event is = cc
 row-event row time type (Err why) = λ event is. cc
 
@@ -52,14 +53,19 @@ row-marked row (Some time) = λ event is. cc
 row-fields : (types : List EventType) (row : ℕ) (fields : List (List ℕ)) → RowIs row (record_of_fields types row fields)
 row-fields types row fields =
     row-if row (bytes_eq (field_at fields 0) at_sign) (mark_of fields) (event_if types row fields (type_named (field_at fields 0) types))
-    (row-if row (length fields == 2) (mark_at (number_in (field_at fields 1))) (Err cause.FieldCount) (row-marked row (number_in (field_at fields 1))) (λ event is. cc))
+    (row-if row (length fields == 2) (mark_at (number_in (field_at fields 1))) (Err cause.FieldCount) (row-marked row (number_in (field_at fields 1)))
+    (λ event is. cc))
     (row-named types row fields (type_named (field_at fields 0) types))
 
 row-bare : (types : List EventType) (row : ℕ) (line : List ℕ) → RowIs row (record_of_bare types row line)
 row-bare types row line =
-    row-if row (length line == 0) (Ok Blank) (if not (is_text line) then Err cause.NotText else if has_open_quote line then Err cause.OpenQuote else record_of_fields types row (fields_of_line line)) (λ event is. cc)
-    (row-if row (not (is_text line)) (Err cause.NotText) (if has_open_quote line then Err cause.OpenQuote else record_of_fields types row (fields_of_line line)) (λ event is. cc)
-    (row-if row (has_open_quote line) (Err cause.OpenQuote) (record_of_fields types row (fields_of_line line)) (λ event is. cc) (row-fields types row (fields_of_line line))))
+    row-if row (length line == 0) (Ok Blank)
+    (if not (is_text line) then Err cause.NotText else if has_open_quote line then Err cause.OpenQuote else record_of_fields types row
+    (fields_of_line line)) (λ event is. cc)
+    (row-if row (not (is_text line)) (Err cause.NotText) (if has_open_quote line then Err cause.OpenQuote else record_of_fields types row
+    (fields_of_line line)) (λ event is. cc)
+    (row-if row (has_open_quote line) (Err cause.OpenQuote) (record_of_fields types row (fields_of_line line)) (λ event is. cc)
+    (row-fields types row (fields_of_line line))))
 
 -- the event of a line has the line's row
 row_is : (types : List EventType) (row : ℕ) (line : List ℕ) (event : Event) → record_of_line types row line ≡ Ok (Row event) → event.row ≡ row
@@ -67,15 +73,20 @@ unfolding record_of_line
 row_is types row line = row-bare types row (bare_line row line)
 
 -- the same where the first line may be a heading
-pub row_in : (header : Bool) (types : List EventType) (row : ℕ) (line : List ℕ) (event : Event) → record_in header types row line ≡ Ok (Row event) → event.row ≡ row
+pub row_in : (header : Bool) (types : List EventType) (row : ℕ) (line : List ℕ) (event : Event) → record_in header types row line ≡ Ok (Row event)
+    → event.row ≡ row
 row_in header types row line = row-if row (is_heading header row) (Ok Blank) (record_of_line types row line) (λ event is. cc) (row_is types row line)
 
 -- ---- the rows of the lines before
 
-rows-below : (header : Bool) (types : List EventType) (row : ℕ) (lines : List (List ℕ)) → Each (HasRowBelow (row + length lines)) (records_from header types row lines)
+rows-below : (header : Bool) (types : List EventType) (row : ℕ) (lines : List (List ℕ))
+    → Each (HasRowBelow (row + length lines)) (records_from header types row lines)
 rows-below header types row [] = tt
-rows-below header types row (line ∷ lines) =
-    (first (record_in header types row line) (row_in header types row line), subst (λ n. Each (HasRowBelow n) (records_from header types (row + 1) lines)) moved (rows-below header types (row + 1) lines))
+rows-below header types row (line ∷ lines) = (
+  first (record_in header types row line) (row_in header types row line),
+  subst (λ n. Each (HasRowBelow n)
+      (records_from header types (row + 1) lines)) moved (rows-below header types (row + 1) lines),
+)
   where
     moved : row + 1 + length lines ≡ row + suc (length lines)
     moved = omega arith
@@ -87,7 +98,8 @@ rows-below header types row (line ∷ lines) =
     first (Ok (Row event)) is = omega (arith, is event refl)
 
 -- the next line's event comes behind those of the lines before
-pub comes_behind : (header : Bool) (types : List EventType) (lines : List (List ℕ)) (line : List ℕ) (next : LineRecord) → record_in header types (length lines + 1) line ≡ Ok next
+pub comes_behind : (header : Bool) (types : List EventType) (lines : List (List ℕ)) (line : List ℕ) (next : LineRecord)
+    → record_in header types (length lines + 1) line ≡ Ok next
     → ComesBehind (records_of header types lines) next
 comes_behind header types lines line Blank is = tt
 comes_behind header types lines line (Mark time) is = tt

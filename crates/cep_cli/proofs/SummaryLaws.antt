@@ -22,12 +22,15 @@ ascii (b ∷ bytes) h =
 counted-ascii : (name : List ℕ) (n : ℕ) → IsAscii name → n < 2 ^ 64 → IsAscii (counted name n)
 counted-ascii name n h fits =
     IsAscii-append name (32 ∷ (decimal n ++ 10 ∷ [])) h
-    (IsAscii-cons 32 (decimal n ++ 10 ∷ []) (omega arith) (IsAscii-append (decimal n) (10 ∷ []) (IsAscii-decimal n fits) (IsAscii-cons 10 [] (omega arith) IsAscii-nil)))
+    (IsAscii-cons 32 (decimal n ++ 10 ∷ []) (omega arith) (IsAscii-append (decimal n) (10 ∷ []) (IsAscii-decimal n fits)
+    (IsAscii-cons 10 [] (omega arith) IsAscii-nil)))
 
-pub summary_utf8 : (rows late matches timeouts : ℕ) → rows < 2 ^ 64 → late < 2 ^ 64 → matches < 2 ^ 64 → timeouts < 2 ^ 64 → IsUtf8 (summary_of rows late matches timeouts)
-summary_utf8 rows late matches timeouts a b c d =
-    IsUtf8-from_ascii (summary_of rows late matches timeouts)
+pub summary_utf8 : (rows late matches timeouts greatest : ℕ) → rows < 2 ^ 64 → late < 2 ^ 64 → matches < 2 ^ 64 → timeouts < 2 ^ 64
+    → greatest < 2 ^ 64 → IsUtf8 (summary_of rows late matches timeouts greatest)
+summary_utf8 rows late matches timeouts greatest a b c d e =
+    IsUtf8-from_ascii (summary_of rows late matches timeouts greatest)
     (IsAscii-append (counted (codes "rows") rows) _ (counted-ascii (codes "rows") rows (ascii (codes "rows") refl) a)
     (IsAscii-append (counted (codes "late") late) _ (counted-ascii (codes "late") late (ascii (codes "late") refl) b)
     (IsAscii-append (counted (codes "matches") matches) _ (counted-ascii (codes "matches") matches (ascii (codes "matches") refl) c)
-    (counted-ascii (codes "timeouts") timeouts (ascii (codes "timeouts") refl) d))))
+    (IsAscii-append (counted (codes "timeouts") timeouts) _ (counted-ascii (codes "timeouts") timeouts (ascii (codes "timeouts") refl) d)
+    (counted-ascii (codes "greatest held") greatest (ascii (codes "greatest held") refl) e)))))

@@ -17,7 +17,8 @@ same least (Some greatest) = refl
 itself : (n : ℕ) → nat_le n n ≡ true
 itself n = grind (arith, nat_tests)
 
-enough : (least : ℕ) (most : Option ℕ) → (nat_le 1 least && (nat_le least 256 && reaches least most)) ≡ true → (nat_le 1 least && nat_le least (most_within least most)) ≡ true
+enough : (least : ℕ) (most : Option ℕ) → (nat_le 1 least && (nat_le least 256 && reaches least most)) ≡ true
+    → (nat_le 1 least && nat_le least (most_within least most)) ≡ true
 enough least None h = and_from (nat_le 1 least) (nat_le least least) (and_parts (nat_le 1 least) (nat_le least 256 && true) h).0 (itself least)
 enough least (Some greatest) h =
     let both = and_parts (nat_le 1 least) (nat_le least 256 && (nat_le least greatest && nat_le greatest 256)) h in
@@ -27,4 +28,5 @@ enough least (Some greatest) h =
 pub compilable : (plan : Plan) → IsUsable plan → IsCompilable plan
 compilable plan usable =
     let checked : IsChecked plan = usable.checked in
-    compilable_from plan (λ (s : Stage). states_up_to s.min s.max) keeps_bounds (λ s. same s.min s.max) (λ s. enough s.min s.max) checked.few_stages checked.bounds checked.few_states
+    compilable_from plan (λ (s : Stage). states_up_to s.min s.max) keeps_bounds (λ s. same s.min s.max)
+    (λ s. enough s.min s.max) checked.few_stages checked.bounds checked.few_states

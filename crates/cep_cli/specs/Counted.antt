@@ -1,5 +1,5 @@
 -- A load run that has handled some lines.
-use Rattle.std.specs.Prelude.{◌≡◌, ℕ, ◌+◌, false, List, [], ◌∷◌, Option}
+use Rattle.std.specs.Prelude.{◌≡◌, ℕ, ◌+◌, false, List, [], ◌∷◌, Option, Result, Ok, Err}
 use Rattle.cep_event.specs.declared.record.LineRecord.{LineRecord}
 use Rattle.cep_plan.specs.declared.item.Item.TheVariants.{Match, Timeout}
 use Rattle.cep_plan.specs.declared.plan.Plan.{Plan}
@@ -7,6 +7,9 @@ use Rattle.cep_plan.specs.EventTime.{ticks_of}
 use Rattle.event_pipeline.specs.declared.pipeline.Pipeline.{Pipeline}
 use Rattle.event_pipeline.specs.Handled.{HasHandled}
 use Rattle.event_pipeline.specs.Told.{Told, late_told, item_told, kept_items}
+use Rattle.shared_buffer.specs.declared.buffer.Held.{Held}
+use Rattle.sharing_laws.specs.Sizes.{greatest_held}
+use Rattle.told_list.specs.Grows.{Grows, GrowsPart}
 use Rattle.cep_cli.specs.declared.load.Counts.{Counts}
 use Rattle.cep_cli.specs.Load.{counts_of, late_rows}
 use Rattle.cep_cli.specs.Records.{records_of}
@@ -29,3 +32,8 @@ counts_before_end lag plan records = counts_of (late_rows lag [] records) (kept_
 pub record HasCounted (lag : Option ℕ) (plan : Plan) (pipeline : Pipeline) (counts : Counts) (lines : List (List ℕ)) : Type 0 where
   pub passed : HasHandled lag plan (records_of false plan.types lines) pipeline
   pub counted : counts ≡ counts_before_end lag plan (records_of false plan.types lines)
+
+-- These sizes were shown, and the answer is the greatest number of events among them; or a front of them was.
+abbrev pub ShowsMost : {E : Type 0} → Option (List Held) → Option (List Held) → List Held → Result ℕ E → Type 0
+ShowsMost before now sizes (Ok greatest) = Grows before now sizes × (greatest ≡ greatest_held sizes)
+ShowsMost before now sizes (Err fault) = GrowsPart before now sizes

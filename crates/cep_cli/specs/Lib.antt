@@ -3,6 +3,7 @@ pub mod Stop
 pub mod Records
 pub mod Meaning
 pub mod Verdict
+pub mod Headline
 pub mod Written
 pub mod Run
 pub mod Load

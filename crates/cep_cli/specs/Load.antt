@@ -1,4 +1,4 @@
--- What a load run counts over its generated lines, and the summary that it prints (this project's own).
+-- What a load run counts over its generated lines, how much is held meanwhile, and the summary that it prints (this project's own).
 use Rattle.std.specs.Prelude.{ℕ, Bool, true, false, List, [], ◌∷◌, ◌++◌, length, Option}
 use Rattle.std.specs.List.{count_by}
 use Rattle.std.specs.Option.{option_to_list}
@@ -12,6 +12,10 @@ use Rattle.cep_plan.specs.EventTime.{all_ticks}
 use Rattle.cep_words.specs.declared.options.Options.{Options}
 use Rattle.cep_cli.specs.declared.load.Counts.{Counts}
 use Rattle.event_pipeline.specs.Told.{kept_items, late_in}
+use Rattle.cep_session.specs.Meaning.{whole}
+use Rattle.shared_buffer.specs.declared.buffer.Held.{Held}
+use Rattle.sharing_laws.specs.Sizes.{greatest_held}
+use Rattle.cep_cli.specs.Meaning.{sizes_of_lines}
 use Rattle.cep_cli.specs.Records.{records_of}
 
 -- the rows of the late events among records that come after others
@@ -35,11 +39,15 @@ counts_of late items = record { late = length late; matches = count_by is_match 
 abbrev pub whole_counts : Option ℕ → Plan → List LineRecord → Counts
 whole_counts lag plan records = counts_of (late_rows lag [] records) (kept_items plan (all_ticks lag records))
 
-abbrev pub summary_with : ℕ → Counts → List ℕ
-summary_with rows counts = summary_of rows counts.late counts.matches counts.timeouts
+-- how much is held after each tick of a run of the plan over the lines that these options ask for, but for that of time End
+abbrev pub load_sizes : Options → Plan → List Held
+load_sizes options plan = whole (sizes_of_lines false options.lag plan) (generated_lines plan.types options.seed options.count)
+
+abbrev pub summary_with : ℕ → Counts → ℕ → List ℕ
+summary_with rows counts greatest = summary_of rows counts.late counts.matches counts.timeouts greatest
 
 -- the summary of a run of the plan over the lines that these options ask for
 abbrev pub load_summary : Options → Plan → List ℕ
 load_summary options plan =
     let lines = generated_lines plan.types options.seed options.count in
-    summary_with options.count (whole_counts options.lag plan (records_of false plan.types lines))
+    summary_with options.count (whole_counts options.lag plan (records_of false plan.types lines)) (greatest_held (load_sizes options plan))

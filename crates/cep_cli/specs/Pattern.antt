@@ -33,7 +33,13 @@ AreSummedAs options bytes answer = AreMadeInto (load_summary options) bytes answ
 abbrev pub AreShownAs : Form → List ℕ → Result (List ℕ) Fault → Type 0
 AreShownAs form.File bytes answer = ArePrintedAs bytes answer
 AreShownAs form.States bytes answer = AreExplainedAs bytes answer
-AreShownAs (form.Summary options) bytes answer = AreSummedAs options bytes answer
+
+-- the text that a mode shows, or why the bytes are refused; a run shows none
+abbrev pub AreShownIn : Mode → Options → List ℕ → Result (List ℕ) Fault → Type 0
+AreShownIn Run options bytes answer = ⊥
+AreShownIn Check options bytes answer = ArePrintedAs bytes answer
+AreShownIn Explain options bytes answer = AreExplainedAs bytes answer
+AreShownIn Load options bytes answer = AreSummedAs options bytes answer
 
 -- the bytes are refused so
 abbrev pub AreRefused : Mode → List ℕ → Fault → Type 0

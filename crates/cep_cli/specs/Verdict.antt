@@ -8,12 +8,12 @@ use Rattle.cep_session.specs.declared.status.Status.{Status}
 use Rattle.cep_session.specs.declared.status.Status.TheVariants.{Done, NoMemory, BadWords, PatternFault, PatternRefused, BadRow, TooManyRows, ReadFault, WriteFault}
 use Rattle.cep_session.specs.Meaning.{verdict}
 use Rattle.pattern_rules.specs.declared.rule.Fault.{Fault}
-use Rattle.pattern_file.specs.Checked.{ArePlannedAs, ArePrintedAs}
+use Rattle.shared_buffer.specs.declared.buffer.Held.{Held}
+use Rattle.told_list.specs.Grows.{Grows, GrowsPart}
+use Rattle.pattern_file.specs.Checked.{ArePlannedAs}
 use Rattle.cep_cli.specs.Meaning.{meaning_of}
-use Rattle.cep_cli.specs.Pattern.{AreExplainedAs, AreSummedAs}
+use Rattle.cep_cli.specs.Pattern.{AreShownIn}
 use Rattle.cep_words.specs.declared.options.Options.{Options}
-use Rattle.cep_words.specs.declared.options.Mode.{Mode}
-use Rattle.cep_words.specs.declared.options.Mode.TheVariants.{Run, Check, Explain, Load}
 
 -- the status of a run with these options and this plan, or of a pattern that is refused
 abbrev pub run_verdict : Options → Result Plan Fault → List ℕ → Status
@@ -30,14 +30,9 @@ abbrev pub IsVerdict : Options → List ℕ → List ℕ → Status → Type 0
 IsVerdict options file input status = (answer : Result Plan Fault) × ArePlannedAs file answer × (status ≡ run_verdict options answer input)
 
 -- the same in a mode that shows a text, which takes nothing of the input; a run shows none
-abbrev pub IsShownVerdictIn : Mode → Options → List ℕ → Status → Type 0
-IsShownVerdictIn Run options file status = ⊥
-IsShownVerdictIn Check options file status = (answer : Result (List ℕ) Fault) × ArePrintedAs file answer × (status ≡ show_verdict answer)
-IsShownVerdictIn Explain options file status = (answer : Result (List ℕ) Fault) × AreExplainedAs file answer × (status ≡ show_verdict answer)
-IsShownVerdictIn Load options file status = (answer : Result (List ℕ) Fault) × AreSummedAs options file answer × (status ≡ show_verdict answer)
-
 abbrev pub IsShownVerdict : Options → List ℕ → Status → Type 0
-IsShownVerdict options file status = IsShownVerdictIn options.mode options file status
+IsShownVerdict options file status =
+    (answer : Result (List ℕ) Fault) × AreShownIn options.mode options file answer × (status ≡ show_verdict answer)
 
 -- a fact that holds of the statuses that come before the input is read
 abbrev pub IfUnread : Status → Type 0 → Type 0
@@ -78,3 +73,15 @@ HasPrinted (PatternRefused code place) old new text = ⊥
 HasPrinted (BadRow row cause) old new text = ⊥
 HasPrinted TooManyRows old new text = ⊥
 HasPrinted ReadFault old new text = ⊥
+
+-- what a gauge was shown of these sizes, with the status with which a load ended; no other status comes
+abbrev pub HasShown : Status → Option (List Held) → Option (List Held) → List Held → Type 0
+HasShown Done old new sizes = Grows old new sizes
+HasShown WriteFault old new sizes = GrowsPart old new sizes
+HasShown NoMemory old new sizes = GrowsPart old new sizes
+HasShown PatternFault old new sizes = Unit {0}
+HasShown BadWords old new sizes = ⊥
+HasShown (PatternRefused code place) old new sizes = ⊥
+HasShown (BadRow row cause) old new sizes = ⊥
+HasShown TooManyRows old new sizes = ⊥
+HasShown ReadFault old new sizes = ⊥

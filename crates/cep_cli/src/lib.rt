@@ -5,7 +5,10 @@ mod load;
 mod pattern;
 mod program;
 mod run;
+mod sure;
 mod written;
 
 pub use cep_session::{RowCause, Status, number, tell};
+pub use event_pipeline::{Gauge, HeldList, MemoryGauge, NoGauge};
 pub use program::cep;
+pub use sure::cep_in_memory;

@@ -4,16 +4,13 @@ ghost use Rattle.cep_session.specs.declared.status.Status.{Status};
 ghost use Rattle.nfa_compile.specs.Explained.{explained};
 ghost use Rattle.pattern_file.specs.Checked.{ArePlannedAs, ArePrintedAs};
 ghost use Rattle.pattern_file.specs.Usable.{IsUsable};
-ghost use Rattle.cep_words.specs.declared.options.Options.{Options};
-ghost use Rattle.cep_cli.specs.Pattern.{AreExplainedAs, AreShownAs, AreSummedAs, Tells};
+ghost use Rattle.cep_cli.specs.Pattern.{AreExplainedAs, AreShownAs, Tells};
 ghost use Rattle.cep_cli.specs.Stop.{IsToldBy};
 
-use crate::load::load_summary;
 use cep_event::{NoMemory, Text};
 use cep_outside::{Files, FilesFault};
 use cep_plan::Plan;
 use cep_session::Status;
-use cep_words::Options;
 use nfa_compile::{compile, explain};
 use pattern_file::{PatternFault, plan_in, printed_in};
 use std::alloc::Global;
@@ -28,8 +25,6 @@ pub(crate) enum Form {
     File,
     /// The table of the states that a run may be in.
     States,
-    /// The summary of a run over the lines that the options ask for.
-    Summary(Options),
 }
 
 /// Why a pattern file comes to nothing.
@@ -100,18 +95,6 @@ fn explained_from(alloc: Global, bytes: &[u8]) -> Result<Text, PatternStop>
     }
 }
 
-// The summary of a run of the plan that the bytes are.
-fn summed_from(alloc: Global, options: Options, bytes: &[u8]) -> Result<Text, PatternStop>
-    ensures told { Tells (AreSummedAs options bytes.now) result }
-    ensures read { result ≢ Err PatternStop.Failed }
-{
-    let plan = plan_from(alloc, bytes)?;
-    match load_summary(alloc, options, plan) {
-        Ok(text) => Ok(text),
-        Err(_) => Err(PatternStop::NoMemory),
-    }
-}
-
 fn text_from(alloc: Global, form: Form, bytes: &[u8]) -> Result<Text, PatternStop>
     ensures told { Tells (AreShownAs form bytes.now) result }
     ensures read { result ≢ Err PatternStop.Failed }
@@ -119,7 +102,6 @@ fn text_from(alloc: Global, form: Form, bytes: &[u8]) -> Result<Text, PatternSto
     match form {
         Form::File => printed_from(alloc, bytes),
         Form::States => explained_from(alloc, bytes),
-        Form::Summary(options) => summed_from(alloc, options, bytes),
     }
 }
 

@@ -6,10 +6,11 @@ ghost use Rattle.cep_records.specs.Causes.{Answers};
 ghost use Rattle.cep_records.specs.Numbered.{AreNumbered};
 ghost use Rattle.event_pipeline.specs.Handled.{HasHandled};
 ghost use Rattle.event_pipeline.specs.Running.{ComesBehind};
+ghost use Rattle.event_pipeline.specs.Shown.{sizes_added, sizes_at_end};
 ghost use Rattle.pattern_file.specs.Usable.{IsUsable};
 ghost use Rattle.cep_cli.specs.Meaning.{meaning_of, owed_text};
 ghost use Rattle.cep_cli.specs.Records.{record_in};
-ghost use Rattle.cep_cli.specs.Run.{HasRun, IsCaused, IsWritten};
+ghost use Rattle.cep_cli.specs.Run.{HasRun, IsCaused, IsShown, IsWritten};
 
 use crate::written::RowWriter;
 use cep_event::{LineRecord, NoMemory};
@@ -18,7 +19,8 @@ use cep_plan::Plan;
 use cep_records::{RowFault, record_of};
 use cep_rows::Line;
 use cep_session::{EndFault, Handler, LineFault, RowCause};
-use event_pipeline::{Pipeline, TellFault};
+use event_pipeline::{Gauge, Pipeline, TellFault};
+use shared_buffer::Held;
 use std::alloc::Global;
 
 /// The record of a line. A heading says nothing, whatever it holds.
@@ -51,35 +53,46 @@ pub(crate) fn pipeline_for(
     Pipeline::new(alloc, lag, plan)
 }
 
-// Takes a record, and writes the text that it causes.
-fn cause<K: Sink>(
+// Takes a record, writes the text that it causes, and shows the gauge what is held meanwhile.
+fn cause<K: Sink, G: Gauge>(
     pipeline: &mut Pipeline,
     rows: &mut RowWriter,
     next: LineRecord,
     output: &mut K,
+    gauge: &mut G,
 ) -> Result<(), TellFault>
-    requires ready { (lag : Option ℕ) × (plan : Plan) × (records : List LineRecord) × HasHandled lag plan records pipeline.old × ComesBehind records next × (length records < 2 ^ 32 - 1) }
+    requires ready { (lag : Option ℕ) × (plan : Plan) × (records : List LineRecord) × HasHandled lag plan records pipeline.old
+        × ComesBehind records next × (length records < 2 ^ 32 - 1) }
     requires empty { rows.old.gathered ≡ [] }
     ensures caused { (lag : Option ℕ) (plan : Plan) (records : List LineRecord) → HasHandled lag plan records pipeline.old
         → IsCaused lag plan records next pipeline.new (K.taken output.old) (K.taken output.new) result }
+    ensures shown { (lag : Option ℕ) (plan : Plan) (records : List LineRecord) → HasHandled lag plan records pipeline.old
+        → IsShown (G.seen gauge.old) (G.seen gauge.new) (sizes_added lag plan records next) result }
     ensures empty { OnOk result (rows.new.gathered ≡ []) }
     ensures later { K.faults output.old ≤ K.faults output.new }
     ensures fault { result ≡ Err TellFault.Failed → Rose (K.faults output.old) (K.faults output.new) }
 {
-    pipeline.take(next, rows, output)?;
+    pipeline.take(next, rows, output, gauge)?;
     rows.flush(output)
 }
 
-// Writes the text that is owed at the end.
-fn owe<K: Sink>(pipeline: Pipeline, rows: &mut RowWriter, output: &mut K) -> Result<(), TellFault>
+// The same at the end, with the text that is owed then.
+fn owe<K: Sink, G: Gauge>(
+    pipeline: Pipeline,
+    rows: &mut RowWriter,
+    output: &mut K,
+    gauge: &mut G,
+) -> Result<(), TellFault>
     requires ready { (lag : Option ℕ) × (plan : Plan) × (records : List LineRecord) × HasHandled lag plan records pipeline × (length records < 2 ^ 32) }
     requires empty { rows.old.gathered ≡ [] }
     ensures owed { (lag : Option ℕ) (plan : Plan) (records : List LineRecord) → HasHandled lag plan records pipeline
         → IsWritten (owed_text lag plan records) (K.taken output.old) (K.taken output.new) result }
+    ensures shown { (lag : Option ℕ) (plan : Plan) (records : List LineRecord) → HasHandled lag plan records pipeline
+        → IsShown (G.seen gauge.old) (G.seen gauge.new) (sizes_at_end lag plan records) result }
     ensures later { K.faults output.old ≤ K.faults output.new }
     ensures fault { result ≡ Err TellFault.Failed → Rose (K.faults output.old) (K.faults output.new) }
 {
-    pipeline.end(rows, output)?;
+    pipeline.end(rows, output, gauge)?;
     rows.flush(output)
 }
 
@@ -120,23 +133,30 @@ impl EngineRun {
     }
 }
 
-impl Handler for EngineRun {
+impl<G: Gauge> Handler<G, Held> for EngineRun {
     ghost use Rattle.cep_cli.specs.Run.{HasRun};
 
     ghost stands = { λ s m lines. HasRun m s.header s.pipeline s.rows.gathered s.handled lines };
+
+    ghost shown = { λ gauge. G.seen gauge };
 
     fn too_long(&self) -> RowCause {
         RowCause::LineTooLong
     }
 
-    fn line<K: Sink>(&mut self, line: &Line, output: &mut K) -> Result<(), LineFault> {
+    fn line<K: Sink>(
+        &mut self,
+        line: &Line,
+        output: &mut K,
+        gauge: &mut G,
+    ) -> Result<(), LineFault> {
         let row = self.handled + 1;
         let next = match record_in(self.alloc, self.header, self.pipeline.plan(), line, row) {
             Ok(next) => next,
             Err(RowFault::NoMemory) => return Err(LineFault::NoMemory),
             Err(RowFault::Bad(cause)) => return Err(LineFault::Refused(cause)),
         };
-        match cause(&mut self.pipeline, &mut self.rows, next, output) {
+        match cause(&mut self.pipeline, &mut self.rows, next, output, gauge) {
             Ok(()) => {
                 self.handled = row;
                 Ok(())
@@ -146,7 +166,7 @@ impl Handler for EngineRun {
         }
     }
 
-    fn end<K: Sink>(self, output: &mut K) -> Result<(), EndFault> {
+    fn end<K: Sink>(self, output: &mut K, gauge: &mut G) -> Result<(), EndFault> {
         let EngineRun {
             alloc: _,
             pipeline,
@@ -154,7 +174,7 @@ impl Handler for EngineRun {
             header: _,
             handled: _,
         } = self;
-        match owe(pipeline, &mut rows, output) {
+        match owe(pipeline, &mut rows, output, gauge) {
             Ok(()) => Ok(()),
             Err(TellFault::NoMemory) => Err(EndFault::NoMemory),
             Err(TellFault::Failed) => Err(EndFault::Unwritten),

@@ -21,54 +21,71 @@ Each-of_map P f [] h = tt
 Each-of_map P f (x ∷ xs) h = (h.0, Each-of_map P f xs h.1)
 
 -- what holds of each start holds of each that is due
-pub due_each : (P : ℕ → Type 0) (test : Start → Bool) (starts : List Start) → Each (λ s. P s.position) starts → Each P (map (λ s. s.position) (filter test starts))
+pub due_each : (P : ℕ → Type 0) (test : Start → Bool) (starts : List Start) → Each (λ s. P s.position) starts
+    → Each P (map (λ s. s.position) (filter test starts))
 due_each P test starts h = Each-map P (λ (s : Start). s.position) (filter test starts) (Each-filter (λ (s : Start). P s.position) test starts h)
 
 -- ---- one after another
 
 module _ (within : Option ℕ) (now : Moment) where
-  one_due : (start : Start) (later : List Start) (position : ℕ) (over : Bool) → is_over within now start ≡ over → cond over (Some start.position) (first_over within now later) ≡ Some position
+  one_due : (start : Start) (later : List Start) (position : ℕ) (over : Bool) → is_over within now start ≡ over
+      → cond over (Some start.position) (first_over within now later) ≡ Some position
       → (first_over within now later ≡ Some position → due_among within now later ≡ position ∷ due_among within now (without_first_over within now later))
-      → map (λ s. s.position) (cond over (start ∷ filter (is_over within now) later) (filter (is_over within now) later)) ≡ position ∷ due_among within now (cond over later (start ∷ without_first_over within now later))
+      → map (λ s. s.position) (cond over (start ∷ filter (is_over within now) later) (filter (is_over within now) later))
+      ≡ position ∷ due_among within now (cond over later (start ∷ without_first_over within now later))
   one_due start later position true is found go = let same : start.position ≡ position = cc in λ i. same i ∷ due_among within now later
   one_due start later position false is found go =
-      go found ∙ ap (λ b. position ∷ map (λ s. s.position) (cond b (start ∷ filter (is_over within now) (without_first_over within now later)) (filter (is_over within now) (without_first_over within now later)))) (sym is)
+      go found
+      ∙ ap (λ b. position ∷ map (λ s. s.position)
+      (cond b (start ∷ filter (is_over within now) (without_first_over within now later))
+      (filter (is_over within now) (without_first_over within now later)))) (sym is)
 
-  pub due_among-next : (starts : List Start) (position : ℕ) → first_over within now starts ≡ Some position → due_among within now starts ≡ position ∷ due_among within now (without_first_over within now starts)
+  pub due_among-next : (starts : List Start) (position : ℕ) → first_over within now starts ≡ Some position
+      → due_among within now starts ≡ position ∷ due_among within now (without_first_over within now starts)
   due_among-next [] position found = let no : None ≡ Some position = found in absurd cc
   due_among-next (start ∷ later) position found = one_due start later position (is_over within now start) refl found (due_among-next later position)
 
   one_left : (start : Start) (later : List Start) (over : Bool) → is_over within now start ≡ over
       → left_among within now later ≡ left_among within now (without_first_over within now later)
-      → cond (not over) (start ∷ left_among within now later) (left_among within now later) ≡ left_among within now (cond over later (start ∷ without_first_over within now later))
+      → cond (not over) (start ∷ left_among within now later) (left_among within now later)
+      ≡ left_among within now (cond over later (start ∷ without_first_over within now later))
   one_left start later true is go = refl
   one_left start later false is go =
-      (λ i. start ∷ go i) ∙ ap (λ b. cond (not b) (start ∷ left_among within now (without_first_over within now later)) (left_among within now (without_first_over within now later))) (sym is)
+      (λ i. start ∷ go i)
+      ∙ ap (λ b. cond (not b) (start ∷ left_among within now (without_first_over within now later))
+      (left_among within now (without_first_over within now later))) (sym is)
 
   pub left_among-next : (starts : List Start) → left_among within now starts ≡ left_among within now (without_first_over within now starts)
   left_among-next [] = refl
   left_among-next (start ∷ later) = one_left start later (is_over within now start) refl (left_among-next later)
 
-  done_one : (start : Start) (later : List Start) (over : Bool) → is_over within now start ≡ over → cond over (Some start.position) (first_over within now later) ≡ None
-      → (first_over within now later ≡ None → (due_among within now later ≡ []) × (left_among within now later ≡ later) × (without_first_over within now later ≡ later))
-      → (map (λ s. s.position) (cond over (start ∷ filter (is_over within now) later) (filter (is_over within now) later)) ≡ []) × (cond (not over) (start ∷ left_among within now later) (left_among within now later) ≡ start ∷ later)
+  done_one : (start : Start) (later : List Start) (over : Bool) → is_over within now start ≡ over
+      → cond over (Some start.position) (first_over within now later) ≡ None
+      → (first_over within now later ≡ None → (due_among within now later ≡ []) × (left_among within now later ≡ later)
+      × (without_first_over within now later ≡ later))
+      → (map (λ s. s.position) (cond over (start ∷ filter (is_over within now) later) (filter (is_over within now) later)) ≡ [])
+      × (cond (not over) (start ∷ left_among within now later) (left_among within now later) ≡ start ∷ later)
       × (cond over later (start ∷ without_first_over within now later) ≡ start ∷ later)
   done_one start later true is none go = let no : Some start.position ≡ None = none in absurd cc
   done_one start later false is none go = let rest = go none in (rest.0, (λ i. start ∷ rest.1 i), (λ i. start ∷ rest.2 i))
 
-  pub due_among-done : (starts : List Start) → first_over within now starts ≡ None → (due_among within now starts ≡ []) × (left_among within now starts ≡ starts) × (without_first_over within now starts ≡ starts)
+  pub due_among-done : (starts : List Start) → first_over within now starts ≡ None → (due_among within now starts ≡ [])
+      × (left_among within now starts ≡ starts) × (without_first_over within now starts ≡ starts)
   due_among-done [] none = (refl, refl, refl)
   due_among-done (start ∷ later) none = done_one start later (is_over within now start) refl none (due_among-done later)
 
-  shorter_one : (start : Start) (later : List Start) (position : ℕ) (over : Bool) → cond over (Some start.position) (first_over within now later) ≡ Some position
+  shorter_one : (start : Start) (later : List Start) (position : ℕ) (over : Bool)
+      → cond over (Some start.position) (first_over within now later) ≡ Some position
       → (first_over within now later ≡ Some position → length (without_first_over within now later) + 1 ≡ length later)
       → length (cond over later (start ∷ without_first_over within now later)) + 1 ≡ length (start ∷ later)
   shorter_one start later position true found go = omega arith
   shorter_one start later position false found go = let less = go found in omega (arith, less)
 
-  pub without_first_over-shorter : (starts : List Start) (position : ℕ) → first_over within now starts ≡ Some position → length (without_first_over within now starts) + 1 ≡ length starts
+  pub without_first_over-shorter : (starts : List Start) (position : ℕ) → first_over within now starts ≡ Some position
+      → length (without_first_over within now starts) + 1 ≡ length starts
   without_first_over-shorter [] position found = let no : None ≡ Some position = found in absurd cc
-  without_first_over-shorter (start ∷ later) position found = shorter_one start later position (is_over within now start) found (without_first_over-shorter later position)
+  without_first_over-shorter (start ∷ later) position found =
+      shorter_one start later position (is_over within now start) found (without_first_over-shorter later position)
 
 -- ---- all together, from the starts that are alive
 
@@ -101,15 +118,19 @@ module _ (time : ℕ → ℤ) (alive : ℕ → Bool) (now : Moment) where
   not_due (Some moment) position = refl
 
   pub due_among-limited : (within : Option ℕ) (before : Option Moment) (positions : List ℕ) → (before ≡ None → positions ≡ [])
-      → due_among within now (limited within (map start (filter (open_before within before) positions))) ≡ filter (λ p. is_due (limit within p) before now && alive p) positions
+      → due_among within now (limited within (map start (filter (open_before within before) positions)))
+      ≡ filter (λ p. is_due (limit within p) before now && alive p) positions
   due_among-limited None before positions first = sym (filter_no (λ p. is_due (limit None p) before now && alive p) positions (not_due before))
   due_among-limited (Some w) None positions first =
-      ap (λ ps. due_among (Some w) now (map start (filter (open_before (Some w) None) ps))) (first refl) ∙ sym (ap (filter (λ p. is_due (limit (Some w) p) None now && alive p)) (first refl))
+      ap (λ ps. due_among (Some w) now (map start (filter (open_before (Some w) None) ps))) (first refl)
+      ∙ sym (ap (filter (λ p. is_due (limit (Some w) p) None now && alive p)) (first refl))
   due_among-limited (Some w) (Some moment) positions first =
       ap (map (λ s. s.position)) (filter-map (is_over (Some w) now) start (filter (open_before (Some w) (Some moment)) positions))
-      ∙ map_back start (λ s. s.position) (filter (λ p. is_over (Some w) now (start p)) (filter (open_before (Some w) (Some moment)) positions)) (each_same (filter (λ p. is_over (Some w) now (start p)) (filter (open_before (Some w) (Some moment)) positions)))
+      ∙ map_back start (λ s. s.position) (filter (λ p. is_over (Some w) now (start p)) (filter (open_before (Some w) (Some moment)) positions))
+      (each_same (filter (λ p. is_over (Some w) now (start p)) (filter (open_before (Some w) (Some moment)) positions)))
       ∙ filter-filter (λ p. is_over (Some w) now (start p)) (open_before (Some w) (Some moment)) positions
-      ∙ ap (λ test. filter test positions) (λ i p. due_bits (is_limit_reached (limit (Some w) p) now) (alive p) (is_limit_reached (limit (Some w) p) moment) i) where
+      ∙ ap (λ test. filter test positions) (λ i p. due_bits (is_limit_reached (limit (Some w) p) now) (alive p)
+      (is_limit_reached (limit (Some w) p) moment) i) where
         each_same : (ps : List ℕ) → Each (λ p. (start p).position ≡ p) ps
         each_same [] = tt
         each_same (p ∷ ps) = (refl, each_same ps)
@@ -122,15 +143,19 @@ module _ (time : ℕ → ℤ) (alive : ℕ → Bool) (now : Moment) where
   left_bits false true false h = refl
   left_bits false false false h = refl
 
-  pub left_among-limited : (within : Option ℕ) (before : Option Moment) (positions : List ℕ) → (before ≡ None → positions ≡ []) → IfSome before (λ earlier. (t : ℤ) → has_reached earlier t ≡ true → has_reached now t ≡ true)
-      → left_among within now (limited within (map start (filter (open_before within before) positions))) ≡ limited within (map start (filter (open_before within (Some now)) positions))
+  pub left_among-limited : (within : Option ℕ) (before : Option Moment) (positions : List ℕ) → (before ≡ None → positions ≡ [])
+      → IfSome before (λ earlier. (t : ℤ) → has_reached earlier t ≡ true → has_reached now t ≡ true)
+      → left_among within now (limited within (map start (filter (open_before within before) positions)))
+      ≡ limited within (map start (filter (open_before within (Some now)) positions))
   left_among-limited None before positions first later = refl
   left_among-limited (Some w) None positions first later =
-      ap (λ ps. left_among (Some w) now (map start (filter (open_before (Some w) None) ps))) (first refl) ∙ sym (ap (λ ps. map start (filter (open_before (Some w) (Some now)) ps)) (first refl))
+      ap (λ ps. left_among (Some w) now (map start (filter (open_before (Some w) None) ps))) (first refl)
+      ∙ sym (ap (λ ps. map start (filter (open_before (Some w) (Some now)) ps)) (first refl))
   left_among-limited (Some w) (Some moment) positions first later =
       filter-map (λ s. not (is_over (Some w) now s)) start (filter (open_before (Some w) (Some moment)) positions)
       ∙ ap (map start) (filter-filter (λ p. not (is_over (Some w) now (start p))) (open_before (Some w) (Some moment)) positions
-      ∙ ap (λ test. filter test positions) (λ i p. left_bits (is_limit_reached (limit (Some w) p) now) (alive p) (is_limit_reached (limit (Some w) p) moment) (later (time p +ℤ pos w)) i))
+      ∙ ap (λ test. filter test positions) (λ i p. left_bits (is_limit_reached (limit (Some w) p) now) (alive p)
+      (is_limit_reached (limit (Some w) p) moment) (later (time p +ℤ pos w)) i))
 
 -- ---- whether a position is one of those
 
@@ -143,7 +168,8 @@ another test position x kept is h passed = by_test (x == position) refl where
 none_is : (test : ℕ → Bool) (position : ℕ) (xs : List ℕ) → test position ≡ false → list_any (λ x. x == position) (filter test xs) ≡ false
 none_is test position [] h = refl
 none_is test position (x ∷ xs) h = chosen (test x) refl (none_is test position xs h) where
-  chosen : (kept : Bool) → test x ≡ kept → list_any (λ y. y == position) (filter test xs) ≡ false → list_any (λ y. y == position) (cond kept (x ∷ filter test xs) (filter test xs)) ≡ false
+  chosen : (kept : Bool) → test x ≡ kept → list_any (λ y. y == position) (filter test xs) ≡ false
+      → list_any (λ y. y == position) (cond kept (x ∷ filter test xs) (filter test xs)) ≡ false
   chosen true is rest = neither (x == position) (list_any (λ y. y == position) (filter test xs)) (another test position x true is h refl) rest where
     neither : (a b : Bool) → a ≡ false → b ≡ false → (a || b) ≡ false
     neither a b p q = (λ i. p i || b) ∙ q
@@ -152,5 +178,6 @@ none_is test position (x ∷ xs) h = chosen (test x) refl (none_is test position
 pub is_among-filtered : (test : ℕ → Bool) (xs : List ℕ) (position : ℕ) → Contains xs position → list_any (λ x. x == position) (filter test xs) ≡ test position
 is_among-filtered test xs position q = by_test (test position) refl where
   by_test : (b : Bool) → test position ≡ b → list_any (λ x. x == position) (filter test xs) ≡ test position
-  by_test true h = list_any-contains (λ x. x == position) (filter test xs) position (Contains-filter test xs position q h) (eq-eqb position position refl) ∙ sym h
+  by_test true h =
+      list_any-contains (λ x. x == position) (filter test xs) position (Contains-filter test xs position q h) (eq-eqb position position refl) ∙ sym h
   by_test false h = none_is test position xs h ∙ sym h

@@ -56,10 +56,13 @@ not_true : (b : Bool) → not b ≡ true → b ≡ false
 not_true true h = let no : false ≡ true = h in absurd cc
 not_true false h = refl
 
-taken_below : (events : List Event) (position : ℕ) (list : List Entry) → Each (λ e. e.position < position) list → Each (λ t. t.position < position) (taken_of events list)
+taken_below : (events : List Event) (position : ℕ) (list : List Entry) → Each (λ e. e.position < position) list
+    → Each (λ t. t.position < position) (taken_of events list)
 taken_below events position list h = Each-map (λ (t : Taken). t.position < position) (taken_at events) list h
 
-module _ (plan : Plan) (ticks : List Tick) (content : Content) (buffer : BufferContent) (saved : Kept) (parts : PartsStand plan ticks content buffer saved) (event : Event) (later : ComesLater ticks (At event.ts)) (limit : IfSome plan.within (λ w. 0 < w)) where
+module _ (plan : Plan) (ticks : List Tick) (content : Content) (buffer : BufferContent) (saved : Kept)
+    (parts : PartsStand plan ticks content buffer saved) (event : Event) (later : ComesLater ticks (At event.ts))
+    (limit : IfSome plan.within (λ w. 0 < w)) where
   abbrev before : List Event
   before = events_of ticks
 
@@ -78,25 +81,38 @@ module _ (plan : Plan) (ticks : List Tick) (content : Content) (buffer : BufferC
   -- ---- the step
 
   pub is_open : open_starts plan (events_of ticks ++ event ∷ []) (kept_of plan ticks) (Some (At event.ts)) (length (events_of ticks)) ≡ true
-  is_open = open_new plan (events_of ticks) (kept_of plan ticks) event (is_start_alive-next (length (events_of ticks)) plan.skip (kept_of plan ticks) parts.below) limit
+  is_open =
+      open_new plan (events_of ticks) (kept_of plan ticks) event
+      (is_start_alive-next (length (events_of ticks)) plan.skip (kept_of plan ticks) parts.below) limit
 
   -- before the step the runs stand for the starts that are open at the event
-  pub runs_ready : (after : Content) (after_buffer : BufferContent) → RunsStand plan (events_of ticks) (λ p. open_after plan ticks p && not (list_any (λ s. s == p) (due_among saved.within (At event.ts) saved.starts))) after after_buffer
+  pub runs_ready : (after : Content) (after_buffer : BufferContent)
+      → RunsStand plan (events_of ticks) (λ p. open_after plan ticks p
+      && not (list_any (λ s. s == p) (due_among saved.within (At event.ts) saved.starts))) after after_buffer
       → RunsStand plan (events_of ticks) (open_starts plan (events_of ticks ++ event ∷ []) (kept_of plan ticks) (Some (At event.ts))) after after_buffer
-  runs_ready after after_buffer stands = RunsStand-event plan (events_of ticks) (kept_of plan ticks) event after after_buffer (runs_left plan ticks content buffer saved parts (At event.ts) later after after_buffer stands)
+  runs_ready after after_buffer stands =
+      RunsStand-event plan (events_of ticks) (kept_of plan ticks) event after after_buffer
+      (runs_left plan ticks content buffer saved parts (At event.ts) later after after_buffer stands)
 
   -- the matches of the tick from the starts that are alive
   same_matches : filter (begins_in open_now) (matches_at plan (events_of ticks) event) ≡ filter (begins_in alive) (matches_at plan (events_of ticks) event)
-  same_matches = matches_at-late plan (events_of ticks) event alive (λ p. is_limit_reached (limit_from plan (event_at (events_of ticks ++ event ∷ []) p)) (At event.ts)) (λ first h. ap not h)
+  same_matches =
+      matches_at-late plan (events_of ticks) event alive
+      (λ p. is_limit_reached (limit_from plan (event_at (events_of ticks ++ event ∷ []) p)) (At event.ts)) (λ first h. ap not h)
 
   -- ---- the kept matches
 
-  module _ (lists : List (List Taken)) (are : lists ≡ map (taken_of (events_of ticks ++ event ∷ [])) (filter (begins_in (open_starts plan (events_of ticks ++ event ∷ []) (kept_of plan ticks) (Some (At event.ts)))) (matches_at plan (events_of ticks) event))) where
+  module _ (lists : List (List Taken)) (are :
+      lists
+      ≡ map (taken_of (events_of ticks ++ event ∷ []))
+      (filter (begins_in (open_starts plan (events_of ticks ++ event ∷ []) (kept_of plan ticks) (Some (At event.ts))))
+      (matches_at plan (events_of ticks) event))) where
     pub matches_small : length (events_of ticks) < 2 ^ 32 - 1 → AreSmall lists
     matches_small room =
         subst AreSmall (sym are)
         (Each-map (λ list. Each (λ (t : Taken). t.position < 2 ^ 32 - 1) list) (taken_of whole) (filter (begins_in open_now) (matches_at plan before event))
-        (small (filter (begins_in open_now) (matches_at plan before event)) (Each-filter (AreAmong whole) (begins_in open_now) (matches_at plan before event) (matches_among plan before event)))) where
+        (small (filter (begins_in open_now) (matches_at plan before event))
+        (Each-filter (AreAmong whole) (begins_in open_now) (matches_at plan before event) (matches_among plan before event)))) where
           below : (list : List Entry) → AreAmong whole list → Each (λ e. e.position < 2 ^ 32 - 1) list
           below [] h = tt
           below (e ∷ list) h = (omega (arith, h.0, room, length-append before (event ∷ [])), below list h.1)
@@ -110,28 +126,38 @@ module _ (plan : Plan) (ticks : List Tick) (content : Content) (buffer : BufferC
         subst (λ ls. Each (IsBelow (length whole)) (map Match ls)) (sym are)
         (Each-map (IsBelow (length whole)) Match (map (taken_of whole) (filter (begins_in open_now) (matches_at plan before event)))
         (Each-map (λ list. Each (λ (t : Taken). t.position < length whole) list) (taken_of whole) (filter (begins_in open_now) (matches_at plan before event))
-        (all_below (filter (begins_in open_now) (matches_at plan before event)) (Each-filter (AreAmong whole) (begins_in open_now) (matches_at plan before event) (matches_among plan before event))))) where
+        (all_below (filter (begins_in open_now) (matches_at plan before event))
+        (Each-filter (AreAmong whole) (begins_in open_now) (matches_at plan before event) (matches_among plan before event))))) where
           all_below : (all : List (List Entry)) → Each (AreAmong whole) all → Each (λ list. Each (λ t. t.position < length whole) (taken_of whole list)) all
           all_below [] h = tt
           all_below (list ∷ all) h = (taken_below whole (length whole) list h.0, all_below all h.1)
 
     -- no earlier kept match kills them
-    pub kept_matches-same : kept plan.skip (map Match lists) ≡ kept_after plan.skip (kept_of plan ticks) (map (λ list. Match (taken_of (events_of ticks ++ event ∷ []) list)) (filter (begins_in (is_start_alive plan.skip (kept_of plan ticks))) (matches_at plan (events_of ticks) event)))
+    pub kept_matches-same :
+        kept plan.skip (map Match lists)
+        ≡ kept_after plan.skip (kept_of plan ticks)
+        (map (λ list. Match (taken_of (events_of ticks ++ event ∷ []) list))
+        (filter (begins_in (is_start_alive plan.skip (kept_of plan ticks))) (matches_at plan (events_of ticks) event)))
     unfolding kept
     kept_matches-same =
         let told : List Entry → Item = λ list. Match (taken_of whole list) in
         let found = filter (begins_in alive) (matches_at plan before event) in
         let same : map Match lists ≡ map told found = ap (map Match) are ∙ map-map Match (taken_of whole) (filter (begins_in open_now) (matches_at plan before event)) ∙ ap (map told) same_matches in
         ap (kept_after plan.skip []) same
-        ∙ sym (kept_after-fresh plan.skip items [] (map told found) (Each-map (λ item. is_killed plan.skip items (list_in item) ≡ false) told found (fresh found (filter-passes (begins_in alive) (matches_at plan before event)))))
+        ∙ sym (kept_after-fresh plan.skip items [] (map told found)
+        (Each-map (λ item. is_killed plan.skip items (list_in item) ≡ false) told found
+        (fresh found (filter-passes (begins_in alive) (matches_at plan before event)))))
         ∙ ap (λ k. kept_after plan.skip k (map told found)) (append-nil items) where
-          fresh : (all : List (List Entry)) → Each (λ list. begins_in alive list ≡ true) all → Each (λ list. is_killed plan.skip items (taken_of whole list) ≡ false) all
+          fresh : (all : List (List Entry)) → Each (λ list. begins_in alive list ≡ true) all
+              → Each (λ list. is_killed plan.skip items (taken_of whole list) ≡ false) all
           fresh [] h = tt
           fresh (list ∷ all) h = (not_true (is_killed plan.skip items (taken_of whole list)) (alive-begins plan.skip items whole list ∙ h.0), fresh all h.1)
 
     -- the kept items of the tick
     pub kept_at-event : (found : List (List Taken)) → map Match found ≡ kept plan.skip (map Match lists)
-        → map (λ list. Timeout (taken_of (events_of ticks) list)) (flat_map (waiting_at plan (events_of ticks)) (due_among saved.within (At event.ts) saved.starts)) ++ map Match found ≡ kept_at plan ticks (event_tick event)
+        → map (λ list. Timeout (taken_of (events_of ticks) list))
+        (flat_map (waiting_at plan (events_of ticks)) (due_among saved.within (At event.ts) saved.starts)) ++ map Match found
+        ≡ kept_at plan ticks (event_tick event)
     unfolding items_at
     kept_at-event found is =
         (λ i. saved_timeouts plan ticks content buffer saved parts (At event.ts) i ++ (is ∙ kept_matches-same) i)
@@ -142,9 +168,19 @@ module _ (plan : Plan) (ticks : List Tick) (content : Content) (buffer : BufferC
     kept_below = kept_after-each (IsBelow (length whole)) plan.skip [] (map Match lists) matches_below
 
     -- ---- after the tick
-    pub PartsStand-event : (found : List (List Taken)) → map Match found ≡ kept plan.skip (map Match lists) → (after : Content) (after_buffer : BufferContent) (left : Kept)
-        → RunsStand plan (events_of ticks ++ event ∷ []) (λ p. open_starts plan (events_of ticks ++ event ∷ []) (kept_of plan ticks) (Some (At event.ts)) p && not (list_any (item_kills_start plan.skip p) (map Match found))) after after_buffer
-        → left ≡ record { within = saved.within; starts = filter (λ s. not (list_any (item_kills_start plan.skip s.position) (map Match found))) (left_among saved.within (At event.ts) saved.starts ++ limited saved.within (record { position = length (events_of ticks); ts = event.ts } ∷ [])) }
+    pub PartsStand-event : (found : List (List Taken)) → map Match found ≡ kept plan.skip (map Match lists)
+        → (after : Content) (after_buffer : BufferContent) (left : Kept)
+        → RunsStand plan (events_of ticks ++ event ∷ [])
+        (λ p. open_starts plan (events_of ticks ++ event ∷ []) (kept_of plan ticks) (Some (At event.ts)) p
+        && not (list_any (item_kills_start plan.skip p) (map Match found))) after after_buffer
+        → left
+        ≡ record {
+          within = saved.within;
+          starts =
+              filter (λ s. not (list_any (item_kills_start plan.skip s.position) (map Match found)))
+              (left_among saved.within (At event.ts) saved.starts
+              ++ limited saved.within (record { position = length (events_of ticks); ts = event.ts } ∷ []));
+        }
         → PartsStand plan (ticks ++ event_tick event ∷ []) after after_buffer left
     PartsStand-event found is after after_buffer left stands limits =
         let shown = flat_map (waiting_at plan before) (due_among saved.within (At event.ts) saved.starts) in
@@ -160,13 +196,18 @@ module _ (plan : Plan) (ticks : List Tick) (content : Content) (buffer : BufferC
         let same : (p : ℕ) → (open_now p && not (killed p)) ≡ open_starts plan whole (items ++ (timeouts ++ matches)) (Some now) p = λ p. kill_order (alive p) (left_now p) (killed p) ∙ sym (after_open p) in
         let before_limits = limits_left plan ticks content buffer saved parts now later in
         let starts = (λ i. filter (λ s. not (killed s.position)) ((before_limits i).starts ++ limited (parts.limits i).within (record { position = length before; ts = event.ts } ∷ [])))
-        ∙ ap (filter (λ s. not (killed s.position))) (starts_among-event plan before items event is_open) ∙ starts_among-killed plan whole alive left_now killed (open_starts plan whole (items ++ (timeouts ++ matches)) (Some now)) after_open in
+        ∙ ap (filter (λ s. not (killed s.position))) (starts_among-event plan before items event is_open)
+        ∙ starts_among-killed plan whole alive left_now killed (open_starts plan whole (items ++ (timeouts ++ matches)) (Some now)) after_open in
         parts_from plan (ticks ++ event_tick event ∷ []) after after_buffer left
         (parts_of plan _ whole _ (items ++ (timeouts ++ matches)) _ (Some now) after after_buffer left
-        (events_of-event ticks event) (kept_of-push plan ticks (event_tick event) ∙ ap (λ r. items ++ r) (sym (kept_at-event found is))) (last_time-push ticks (event_tick event))
+        (events_of-event ticks event) (kept_of-push plan ticks (event_tick event) ∙ ap (λ r. items ++ r) (sym (kept_at-event found is)))
+        (last_time-push ticks (event_tick event))
         (record {
           are_runs = RunsStand-same plan whole _ _ after after_buffer same stands;
           are_limits = limits ∙ (λ i. record { within = (parts.limits i).within; starts = starts i });
-          are_below = Each-append (IsBelow (length whole)) items (timeouts ++ matches) (AreBelow-later (length before) (length whole) (omega (arith, length-append before (event ∷ []))) items parts.below)
-              (Each-append (IsBelow (length whole)) timeouts matches (AreBelow-timeouts (length whole) (taken_of before) shown) (subst (Each (IsBelow (length whole))) (sym is) (kept_below)));
+          are_below =
+              Each-append (IsBelow (length whole)) items (timeouts ++ matches)
+              (AreBelow-later (length before) (length whole) (omega (arith, length-append before (event ∷ []))) items parts.below)
+              (Each-append (IsBelow (length whole)) timeouts matches (AreBelow-timeouts (length whole) (taken_of before) shown)
+              (subst (Each (IsBelow (length whole))) (sym is) (kept_below)));
         }))

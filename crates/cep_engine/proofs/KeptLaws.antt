@@ -54,8 +54,12 @@ module _ (position : ℕ) where
   not_killed No list h = refl
   not_killed ToNext list h = not_same (start_of list) (first_below list h)
   not_killed PastLast list h = not_to (start_of list) (end_of list) (last_below list h)
-  not_killed (ToFirst stage) list h = not_below (start_of list) (start_of (entries_for stage list)) (first_below (entries_for stage list) (Each-filter (λ (t : Taken). t.position < position) (λ t. t.stage == stage) list h))
-  not_killed (ToLast stage) list h = not_below (start_of list) (end_of (entries_for stage list)) (last_below (entries_for stage list) (Each-filter (λ (t : Taken). t.position < position) (λ t. t.stage == stage) list h))
+  not_killed (ToFirst stage) list h =
+      not_below (start_of list) (start_of (entries_for stage list))
+      (first_below (entries_for stage list) (Each-filter (λ (t : Taken). t.position < position) (λ t. t.stage == stage) list h))
+  not_killed (ToLast stage) list h =
+      not_below (start_of list) (end_of (entries_for stage list))
+      (last_below (entries_for stage list) (Each-filter (λ (t : Taken). t.position < position) (λ t. t.stage == stage) list h))
 
   none_kills : (skip : Skip) (items : List Item) → AreBelow position items → list_any (item_kills_start skip position) items ≡ false
   none_kills skip [] h = refl
@@ -81,10 +85,13 @@ AreBelow-timeouts position shown (x ∷ xs) = (tt, AreBelow-timeouts position sh
 
 pub kept_after-each : (P : Item → Type 0) (skip : Skip) (before items : List Item) → Each P items → Each P (kept_after skip before items)
 kept_after-each P skip before [] h = tt
-kept_after-each P skip before (item ∷ items) h = chosen (is_killed skip before (list_in item)) (kept_after-each P skip before items h.1) (kept_after-each P skip (before ++ item ∷ []) items h.1) where
-  chosen : (killed : Bool) → Each P (kept_after skip before items) → Each P (kept_after skip (before ++ item ∷ []) items) → Each P (cond killed (kept_after skip before items) (item ∷ kept_after skip (before ++ item ∷ []) items))
-  chosen true gone stays = gone
-  chosen false gone stays = (h.0, stays)
+kept_after-each P skip before (item ∷ items) h =
+    chosen (is_killed skip before (list_in item)) (kept_after-each P skip before items h.1)
+    (kept_after-each P skip (before ++ item ∷ []) items h.1) where
+      chosen : (killed : Bool) → Each P (kept_after skip before items) → Each P (kept_after skip (before ++ item ∷ []) items)
+          → Each P (cond killed (kept_after skip before items) (item ∷ kept_after skip (before ++ item ∷ []) items))
+      chosen true gone stays = gone
+      chosen false gone stays = (h.0, stays)
 
 or_false : (b : Bool) → (b || false) ≡ b
 or_false true = refl
@@ -94,16 +101,22 @@ not_either : (a b : Bool) → not (a || b) ≡ (not a && not b)
 not_either true b = refl
 not_either false b = refl
 
-timeouts_kill_none : {X : Type 0} (skip : Skip) (start : ℕ) (shown : X → List Taken) (xs : List X) → list_any (item_kills_start skip start) (map (λ x. Timeout (shown x)) xs) ≡ false
+timeouts_kill_none : {X : Type 0} (skip : Skip) (start : ℕ) (shown : X → List Taken) (xs : List X)
+    → list_any (item_kills_start skip start) (map (λ x. Timeout (shown x)) xs) ≡ false
 timeouts_kill_none skip start shown [] = refl
 timeouts_kill_none skip start shown (x ∷ xs) = timeouts_kill_none skip start shown xs
 
 -- the starts alive after timeouts are those before
-pub is_start_alive-timeouts : {X : Type 0} (skip : Skip) (items : List Item) (shown : X → List Taken) (xs : List X) (start : ℕ) → is_start_alive skip (items ++ map (λ x. Timeout (shown x)) xs) start ≡ is_start_alive skip items start
+pub is_start_alive-timeouts : {X : Type 0} (skip : Skip) (items : List Item) (shown : X → List Taken) (xs : List X) (start : ℕ)
+    → is_start_alive skip (items ++ map (λ x. Timeout (shown x)) xs) start ≡ is_start_alive skip items start
 is_start_alive-timeouts skip items shown xs start =
-    ap not (list_any-append (item_kills_start skip start) items (map (λ x. Timeout (shown x)) xs) ∙ ap (λ b. list_any (item_kills_start skip start) items || b) (timeouts_kill_none skip start shown xs) ∙ or_false (list_any (item_kills_start skip start) items))
+    ap not (list_any-append (item_kills_start skip start) items (map (λ x. Timeout (shown x)) xs)
+    ∙ ap (λ b. list_any (item_kills_start skip start) items || b) (timeouts_kill_none skip start shown xs)
+    ∙ or_false (list_any (item_kills_start skip start) items))
 
 -- and after matches those that none of these kills
-pub is_start_alive-append : (skip : Skip) (items more : List Item) (start : ℕ) → is_start_alive skip (items ++ more) start ≡ (is_start_alive skip items start && not (list_any (item_kills_start skip start) more))
+pub is_start_alive-append : (skip : Skip) (items more : List Item) (start : ℕ)
+    → is_start_alive skip (items ++ more) start ≡ (is_start_alive skip items start && not (list_any (item_kills_start skip start) more))
 is_start_alive-append skip items more start =
-    ap not (list_any-append (item_kills_start skip start) items more) ∙ not_either (list_any (item_kills_start skip start) items) (list_any (item_kills_start skip start) more)
+    ap not (list_any-append (item_kills_start skip start) items more)
+    ∙ not_either (list_any (item_kills_start skip start) items) (list_any (item_kills_start skip start) more)

@@ -82,11 +82,15 @@ or_false true = refl
 or_false false = refl
 
 -- one more of those that are left out, by a test that says the same of it
-pub RunsStand-more : {X : Type 0} (kills : X → ℕ → Bool) (plan : Plan) (events : List Event) (starts test : ℕ → Bool) (content : Content) (buffer : BufferContent) (xs : List X) (i : ℕ) (x : X)
+pub RunsStand-more :
+    {X : Type 0} (kills : X → ℕ → Bool) (plan : Plan) (events : List Event) (starts test : ℕ → Bool) (content : Content) (buffer : BufferContent)
+    (xs : List X) (i : ℕ) (x : X)
     → x ≡ get_or xs i x → i < length xs → ((p : ℕ) → test p ≡ kills x p)
-    → RunsStand plan events (λ p. (starts p && not (list_any (λ y. kills y p) (take i xs))) && not (test p)) content buffer → RunsStand plan events (λ p. starts p && not (list_any (λ y. kills y p) (take (i + 1) xs))) content buffer
+    → RunsStand plan events (λ p. (starts p && not (list_any (λ y. kills y p) (take i xs))) && not (test p)) content buffer
+    → RunsStand plan events (λ p. starts p && not (list_any (λ y. kills y p) (take (i + 1) xs))) content buffer
 RunsStand-more kills plan events starts test content buffer xs i x is lt same stands =
-    RunsStand-same plan events (λ p. (starts p && not (list_any (λ y. kills y p) (take i xs))) && not (test p)) (λ p. starts p && not (list_any (λ y. kills y p) (take (i + 1) xs))) content buffer
+    RunsStand-same plan events (λ p. (starts p && not (list_any (λ y. kills y p) (take i xs))) && not (test p))
+    (λ p. starts p && not (list_any (λ y. kills y p) (take (i + 1) xs))) content buffer
     (λ p. and_not_either (starts p) (list_any (λ y. kills y p) (take i xs)) (test p)
     ∙ ap (λ b. starts p && not b)
     (ap (λ b. list_any (λ y. kills y p) (take i xs) || b) (same p ∙ sym (or_false (kills x p)))
@@ -94,8 +98,10 @@ RunsStand-more kills plan events starts test content buffer xs i x is lt same st
     ∙ ap (list_any (λ y. kills y p)) (ap (λ y. take i xs ++ y ∷ []) is ∙ sym (take_more xs i x lt)))) stands
 
 -- the same of a list that is filtered
-pub filter-more : {X Y : Type 0} (kills : X → Y → Bool) (test : Y → Bool) (ys : List Y) (xs : List X) (i : ℕ) (x : X) → x ≡ get_or xs i x → i < length xs → ((y : Y) → test y ≡ kills x y)
-    → filter (λ y. not (test y)) (filter (λ y. not (list_any (λ z. kills z y) (take i xs))) ys) ≡ filter (λ y. not (list_any (λ z. kills z y) (take (i + 1) xs))) ys
+pub filter-more : {X Y : Type 0} (kills : X → Y → Bool) (test : Y → Bool) (ys : List Y) (xs : List X) (i : ℕ) (x : X) → x ≡ get_or xs i x
+    → i < length xs → ((y : Y) → test y ≡ kills x y)
+    → filter (λ y. not (test y)) (filter (λ y. not (list_any (λ z. kills z y) (take i xs))) ys)
+    ≡ filter (λ y. not (list_any (λ z. kills z y) (take (i + 1) xs))) ys
 filter-more kills test ys xs i x is lt same =
     filter-filter (λ y. not (test y)) (λ y. not (list_any (λ z. kills z y) (take i xs))) ys
     ∙ ap (λ t. filter t ys) (λ j y. (not_either_and (list_any (λ z. kills z y) (take i xs)) (test y)
@@ -111,7 +117,8 @@ any_match test (list ∷ lists) = λ i. test (Match list) || any_match test list
 
 -- ---- kept matches, one after another
 
-pub kept_after-killed : (skip : Skip) (found lists : List (List Taken)) (list : List Taken) → map Match found ≡ kept_after skip [] (map Match lists) → is_killed skip (map Match found) list ≡ true
+pub kept_after-killed : (skip : Skip) (found lists : List (List Taken)) (list : List Taken) → map Match found ≡ kept_after skip [] (map Match lists)
+    → is_killed skip (map Match found) list ≡ true
     → map Match found ≡ kept_after skip [] (map Match (lists ++ list ∷ []))
 kept_after-killed skip found lists list is killed =
     let items = map Match lists in
@@ -124,7 +131,8 @@ kept_after-killed skip found lists list is killed =
       append_none [] = refl
       append_none (x ∷ xs) = λ i. x ∷ append_none xs i
 
-pub kept_after-kept : (skip : Skip) (found lists : List (List Taken)) (list : List Taken) → map Match found ≡ kept_after skip [] (map Match lists) → is_killed skip (map Match found) list ≡ false
+pub kept_after-kept : (skip : Skip) (found lists : List (List Taken)) (list : List Taken) → map Match found ≡ kept_after skip [] (map Match lists)
+    → is_killed skip (map Match found) list ≡ false
     → map Match (found ++ list ∷ []) ≡ kept_after skip [] (map Match (lists ++ list ∷ []))
 kept_after-kept skip found lists list is killed =
     let items = map Match lists in

@@ -65,7 +65,8 @@ last_time-push ticks tick = ap (option_map time_of) (last_or-push None ticks tic
 -- the kept items after one more tick
 pub kept_of-push : (plan : Plan) (ticks : List Tick) (tick : Tick) → kept_of plan (ticks ++ tick ∷ []) ≡ kept_of plan ticks ++ kept_at plan ticks tick
 unfolding kept
-kept_of-push plan ticks tick = ap (kept_after plan.skip []) (history-push plan ticks tick) ∙ kept_after-append plan.skip [] (history plan ticks) (items_at plan ticks tick)
+kept_of-push plan ticks tick = ap (kept_after plan.skip []) (history-push plan ticks tick)
+    ∙ kept_after-append plan.skip [] (history plan ticks) (items_at plan ticks tick)
 
 -- ---- lists of positions
 
@@ -127,39 +128,57 @@ module _ (plan : Plan) (ticks : List Tick) (items : List Item) (now : Moment) wh
   first_tick h = ap (λ es. range_with_len 0 (length es)) (no_events ticks h)
 
   -- the due starts are those of the definitions
-  pub due_among-starts : due_among plan.within now (starts_among plan (events_of ticks) open_before) ≡ filter (due_starts plan (events_of ticks) (last_time ticks) now alive) (range_with_len 0 (length (events_of ticks)))
-  due_among-starts = due_among-limited (λ p. (event_at (events_of ticks) p).ts) alive now plan.within (last_time ticks) (range_with_len 0 (length (events_of ticks))) first_tick
+  pub due_among-starts :
+      due_among plan.within now (starts_among plan (events_of ticks) open_before)
+      ≡ filter (due_starts plan (events_of ticks) (last_time ticks) now alive) (range_with_len 0 (length (events_of ticks)))
+  due_among-starts =
+      due_among-limited (λ p. (event_at (events_of ticks) p).ts) alive now plan.within (last_time ticks)
+      (range_with_len 0 (length (events_of ticks))) first_tick
 
   pub left_among-starts : IfSome (last_time ticks) (λ earlier. (t : ℤ) → has_reached earlier t ≡ true → has_reached now t ≡ true)
-      → left_among plan.within now (starts_among plan (events_of ticks) open_before) ≡ starts_among plan (events_of ticks) (open_starts plan (events_of ticks) items (Some now))
-  left_among-starts later = left_among-limited (λ p. (event_at (events_of ticks) p).ts) alive now plan.within (last_time ticks) (range_with_len 0 (length (events_of ticks))) first_tick later
+      → left_among plan.within now (starts_among plan (events_of ticks) open_before)
+      ≡ starts_among plan (events_of ticks) (open_starts plan (events_of ticks) items (Some now))
+  left_among-starts later =
+      left_among-limited (λ p. (event_at (events_of ticks) p).ts) alive now plan.within (last_time ticks)
+      (range_with_len 0 (length (events_of ticks))) first_tick later
 
   pub starts_among-open : Each (λ s. open_before s.position ≡ true) (starts_among plan (events_of ticks) open_before)
   starts_among-open =
-      limited-each (λ s. open_before s.position ≡ true) plan.within (map (start_at (events_of ticks)) (filter open_before (range_with_len 0 (length (events_of ticks)))))
-      (Each-map (λ (s : Start). open_before s.position ≡ true) (start_at (events_of ticks)) (filter open_before (range_with_len 0 (length (events_of ticks)))) (filter-passes open_before (range_with_len 0 (length (events_of ticks)))))
+      limited-each (λ s. open_before s.position ≡ true) plan.within
+      (map (start_at (events_of ticks)) (filter open_before (range_with_len 0 (length (events_of ticks)))))
+      (Each-map (λ (s : Start). open_before s.position ≡ true) (start_at (events_of ticks))
+      (filter open_before (range_with_len 0 (length (events_of ticks))))
+      (filter-passes open_before (range_with_len 0 (length (events_of ticks)))))
 
   left_bits : (a l d : Bool) → ((a && l) && not (d && a)) ≡ (a && (l && not d))
   left_bits false l d = refl
   left_bits true l true = refl
   left_bits true l false = refl
 
-  still_open : (before : Option Moment) → last_time ticks ≡ before → IfSome before (λ earlier. (t : ℤ) → has_reached earlier t ≡ true → has_reached now t ≡ true) → (p : ℕ) → p < length (events_of ticks)
-      → ((alive p && is_time_left (limit_from plan (event_at (events_of ticks) p)) before) && not (is_due (limit_from plan (event_at (events_of ticks) p)) before now && alive p)) ≡ open_starts plan (events_of ticks) items (Some now) p
+  still_open : (before : Option Moment) → last_time ticks ≡ before
+      → IfSome before (λ earlier. (t : ℤ) → has_reached earlier t ≡ true → has_reached now t ≡ true) → (p : ℕ) → p < length (events_of ticks)
+      → ((alive p && is_time_left (limit_from plan (event_at (events_of ticks) p)) before)
+      && not (is_due (limit_from plan (event_at (events_of ticks) p)) before now && alive p))
+      ≡ open_starts plan (events_of ticks) items (Some now) p
   still_open None is later p lt = let none = ap length (no_events ticks is) in absurd (omega (arith, lt, none))
   still_open (Some moment) is later p lt =
       let limit = limit_from plan (event_at (events_of ticks) p) in
       left_bits (alive p) (is_time_left limit (Some moment)) (is_due limit (Some moment) now) ∙ ap (λ b. alive p && b) (is_time_left-due limit moment now later)
 
   -- the runs without those of the due starts are those of the starts that are still open
-  pub RunsStand-left : IfSome (last_time ticks) (λ earlier. (t : ℤ) → has_reached earlier t ≡ true → has_reached now t ≡ true) → (content : Content) (buffer : BufferContent)
-      → RunsStand plan (events_of ticks) (λ p. open_before p && not (list_any (λ s. s == p) (due_among plan.within now (starts_among plan (events_of ticks) open_before)))) content buffer
+  pub RunsStand-left : IfSome (last_time ticks) (λ earlier. (t : ℤ) → has_reached earlier t ≡ true → has_reached now t ≡ true)
+      → (content : Content) (buffer : BufferContent)
+      → RunsStand plan (events_of ticks) (λ p. open_before p
+      && not (list_any (λ s. s == p) (due_among plan.within now (starts_among plan (events_of ticks) open_before)))) content buffer
       → RunsStand plan (events_of ticks) (open_starts plan (events_of ticks) items (Some now)) content buffer
   RunsStand-left later content buffer stands =
       let positions = range_with_len 0 (length (events_of ticks)) in
       let due = due_starts plan (events_of ticks) (last_time ticks) now alive in
-      RunsStand-agree plan (events_of ticks) (λ p. open_before p && not (list_any (λ s. s == p) (due_among plan.within now (starts_among plan (events_of ticks) open_before)))) (open_starts plan (events_of ticks) items (Some now)) content buffer
-      (λ p lt. ap (λ b. open_before p && not b) (ap (list_any (λ s. s == p)) due_among-starts ∙ is_among-filtered due positions p (Contains-range 0 (length (events_of ticks)) p (omega arith) (omega (arith, lt))))
+      RunsStand-agree plan (events_of ticks) (λ p. open_before p
+      && not (list_any (λ s. s == p) (due_among plan.within now (starts_among plan (events_of ticks) open_before))))
+      (open_starts plan (events_of ticks) items (Some now)) content buffer
+      (λ p lt. ap (λ b. open_before p && not b) (ap (list_any (λ s. s == p)) due_among-starts
+      ∙ is_among-filtered due positions p (Contains-range 0 (length (events_of ticks)) p (omega arith) (omega (arith, lt))))
       ∙ still_open (last_time ticks) refl later p lt) stands
 
 -- ---- one more event
@@ -187,14 +206,19 @@ module _ (plan : Plan) (events : List Event) (items : List Item) (event : Event)
 
   -- the others are as before
   open_old : (p : ℕ) → p < length events → open_starts plan events items (Some (At event.ts)) p ≡ open_now p
-  open_old p lt = ap (λ e. is_start_alive plan.skip items p && is_time_left (limit_from plan e) (Some (At event.ts))) (sym (event_at-append events (event ∷ []) p lt))
+  open_old p lt =
+      ap (λ e. is_start_alive plan.skip items p && is_time_left (limit_from plan e) (Some (At event.ts)))
+      (sym (event_at-append events (event ∷ []) p lt))
 
-  pub RunsStand-event : (content : Content) (buffer : BufferContent) → RunsStand plan events (open_starts plan events items (Some (At event.ts))) content buffer → RunsStand plan events open_now content buffer
-  RunsStand-event content buffer stands = RunsStand-agree plan events (open_starts plan events items (Some (At event.ts))) open_now content buffer open_old stands
+  pub RunsStand-event : (content : Content) (buffer : BufferContent)
+      → RunsStand plan events (open_starts plan events items (Some (At event.ts))) content buffer → RunsStand plan events open_now content buffer
+  RunsStand-event content buffer stands =
+      RunsStand-agree plan events (open_starts plan events items (Some (At event.ts))) open_now content buffer open_old stands
 
   -- the starts with the new one
   pub starts_among-event : open_now (length events) ≡ true
-      → starts_among plan events (open_starts plan events items (Some (At event.ts))) ++ limited plan.within (record { position = length events; ts = event.ts } ∷ []) ≡ starts_among plan (events ++ event ∷ []) open_now
+      → starts_among plan events (open_starts plan events items (Some (At event.ts)))
+      ++ limited plan.within (record { position = length events; ts = event.ts } ∷ []) ≡ starts_among plan (events ++ event ∷ []) open_now
   starts_among-event is_open = by_limit plan.within where
     old : ℕ → Bool
     old = open_starts plan events items (Some (At event.ts))
@@ -203,9 +227,13 @@ module _ (plan : Plan) (events : List Event) (items : List Item) (event : Event)
     positions = range_with_len 0 (length events)
 
     same_starts : filter old (range_with_len 0 (length events)) ≡ filter open_now (range_with_len 0 (length events))
-    same_starts = filter-same old open_now (range_with_len 0 (length events)) (Each-into (λ p. p < length events) (λ p. old p ≡ open_now p) (range_with_len 0 (length events)) open_old (positions_below (length events)))
+    same_starts =
+        filter-same old open_now (range_with_len 0 (length events))
+        (Each-into (λ p. p < length events) (λ p. old p ≡ open_now p) (range_with_len 0 (length events)) open_old (positions_below (length events)))
 
-    same_at : map (start_at events) (filter open_now (range_with_len 0 (length events))) ≡ map (start_at (events ++ event ∷ [])) (filter open_now (range_with_len 0 (length events)))
+    same_at :
+        map (start_at events) (filter open_now (range_with_len 0 (length events)))
+        ≡ map (start_at (events ++ event ∷ [])) (filter open_now (range_with_len 0 (length events)))
     same_at =
         map-same (start_at events) (start_at (events ++ event ∷ [])) (filter open_now (range_with_len 0 (length events)))
         (Each-into (λ p. p < length events) (λ p. start_at events p ≡ start_at (events ++ event ∷ []) p) (filter open_now (range_with_len 0 (length events)))
@@ -218,14 +246,20 @@ module _ (plan : Plan) (events : List Event) (items : List Item) (event : Event)
     one_more : filter open_now (range_with_len 0 (length (events ++ event ∷ []))) ≡ filter open_now (range_with_len 0 (length events)) ++ length events ∷ []
     one_more =
         ap (λ n. filter open_now (range_with_len 0 n)) (length-append events (event ∷ [])) ∙ ap (filter open_now) (positions_push (length events))
-        ∙ filter-append open_now (range_with_len 0 (length events)) (length events ∷ []) ∙ ap (λ b. filter open_now (range_with_len 0 (length events)) ++ cond b (length events ∷ []) []) is_open
+        ∙ filter-append open_now (range_with_len 0 (length events)) (length events ∷ [])
+        ∙ ap (λ b. filter open_now (range_with_len 0 (length events)) ++ cond b (length events ∷ []) []) is_open
 
-    all : map (start_at events) (filter old (range_with_len 0 (length events))) ++ record { position = length events; ts = event.ts } ∷ [] ≡ map (start_at (events ++ event ∷ [])) (filter open_now (range_with_len 0 (length (events ++ event ∷ []))))
+    all :
+        map (start_at events) (filter old (range_with_len 0 (length events))) ++ record { position = length events; ts = event.ts } ∷ []
+        ≡ map (start_at (events ++ event ∷ [])) (filter open_now (range_with_len 0 (length (events ++ event ∷ []))))
     all =
         (λ i. (ap (map (start_at events)) same_starts ∙ same_at) i ++ new_start i ∷ [])
-        ∙ sym (ap (map (start_at (events ++ event ∷ []))) one_more ∙ map-joined (start_at (events ++ event ∷ [])) (filter open_now (range_with_len 0 (length events))) (length events ∷ []))
+        ∙ sym (ap (map (start_at (events ++ event ∷ []))) one_more
+        ∙ map-joined (start_at (events ++ event ∷ [])) (filter open_now (range_with_len 0 (length events))) (length events ∷ []))
 
-    by_limit : (within : Option ℕ) → limited within (map (start_at events) (filter old (range_with_len 0 (length events)))) ++ limited within (record { position = length events; ts = event.ts } ∷ [])
+    by_limit : (within : Option ℕ)
+        → limited within (map (start_at events) (filter old (range_with_len 0 (length events))))
+        ++ limited within (record { position = length events; ts = event.ts } ∷ [])
         ≡ limited within (map (start_at (events ++ event ∷ [])) (filter open_now (range_with_len 0 (length (events ++ event ∷ [])))))
     by_limit None = refl
     by_limit (Some w) = all
@@ -245,13 +279,17 @@ kill_order true true false = refl
 kill_order true false true = refl
 kill_order true false false = refl
 
-pub starts_among-killed : (plan : Plan) (events : List Event) (alive left killed after : ℕ → Bool) → ((p : ℕ) → after p ≡ ((alive p && not (killed p)) && left p))
+pub starts_among-killed : (plan : Plan) (events : List Event) (alive left killed after : ℕ → Bool)
+    → ((p : ℕ) → after p ≡ ((alive p && not (killed p)) && left p))
     → filter (λ s. not (killed s.position)) (starts_among plan events (λ p. alive p && left p)) ≡ starts_among plan events after
 starts_among-killed plan events alive left killed after same = by_limit plan.within where
   positions : List ℕ
   positions = range_with_len 0 (length events)
 
-  by_limit : (within : Option ℕ) → filter (λ s. not (killed s.position)) (limited within (map (start_at events) (filter (λ p. alive p && left p) (range_with_len 0 (length events))))) ≡ limited within (map (start_at events) (filter after (range_with_len 0 (length events))))
+  by_limit : (within : Option ℕ)
+      → filter (λ s. not (killed s.position)) (limited within
+      (map (start_at events) (filter (λ p. alive p && left p) (range_with_len 0 (length events)))))
+      ≡ limited within (map (start_at events) (filter after (range_with_len 0 (length events))))
   by_limit None = refl
   by_limit (Some w) =
       filter-map (λ (s : Start). not (killed s.position)) (start_at events) (filter (λ p. alive p && left p) (range_with_len 0 (length events)))

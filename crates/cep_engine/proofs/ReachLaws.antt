@@ -38,7 +38,8 @@ pub StartBefore-rest : (lists : List (List Taken)) (next : List Taken) (later : 
 StartBefore-rest [] next later h = tt
 StartBefore-rest (list ∷ lists) next later h = (h.0.1, StartBefore-rest lists next later h.1)
 
-pub StartBefore-next : (lists : List (List Taken)) (next : List Taken) (later : List (List Taken)) → StartBefore lists (next ∷ later) → Each (λ list. StartsNoLater list next) lists
+pub StartBefore-next : (lists : List (List Taken)) (next : List Taken) (later : List (List Taken)) → StartBefore lists (next ∷ later)
+    → Each (λ list. StartsNoLater list next) lists
 StartBefore-next [] next later h = tt
 StartBefore-next (list ∷ lists) next later h = (h.0.0, StartBefore-next lists next later h.1)
 
@@ -69,21 +70,25 @@ module _ (events : List Event) where
   unfolding IsStrictlySortedBy
   in_start_order [] sorted = tt
   in_start_order (list ∷ lists) sorted = (all_later lists sorted.0, in_start_order lists sorted.1) where
-    all_later : (later : List (List Entry)) → Each (λ b. list_cmp list b ≡ Less) later → Each (StartsNoLater (taken_of events list)) (map (taken_of events) later)
+    all_later : (later : List (List Entry)) → Each (λ b. list_cmp list b ≡ Less) later
+        → Each (StartsNoLater (taken_of events list)) (map (taken_of events) later)
     all_later [] h = tt
     all_later (b ∷ later) h = (starts_no_later list b h.0, all_later later h.1)
 
 -- the matches of a tick that begin at some starts are in order of their starts
-pub matches_in_order : (plan : Plan) (events : List Event) (event : Event) (starts : ℕ → Bool) → AreInStartOrder (map (taken_of (events ++ event ∷ [])) (filter (begins_in starts) (matches_at plan events event)))
+pub matches_in_order : (plan : Plan) (events : List Event) (event : Event) (starts : ℕ → Bool)
+    → AreInStartOrder (map (taken_of (events ++ event ∷ [])) (filter (begins_in starts) (matches_at plan events event)))
 matches_in_order plan events event starts =
     in_start_order (events ++ event ∷ []) (filter (begins_in starts) (matches_at plan events event))
     (IsStrictlySortedBy-filter list_cmp (begins_in starts) (matches_at plan events event)
-    (IsStrictlySortedBy-filter list_cmp (λ list. ends_at (length events) list && is_match plan (events ++ event ∷ []) list) _ (rising_lists-sorted (length plan.stages) 0 (length events + 1))))
+    (IsStrictlySortedBy-filter list_cmp (λ list. ends_at (length events) list && is_match plan (events ++ event ∷ []) list) _
+    (rising_lists-sorted (length plan.stages) 0 (length events + 1))))
 
 -- ---- what the kept matches kill
 
 -- the lists that don't start after this one don't start after its start
-starts_by : (list : List Taken) (start : ℕ) (found : List (List Taken)) → start_of list ≡ Some start → Each (λ match. StartsNoLater match list) found → Each (StartsBy start) found
+starts_by : (list : List Taken) (start : ℕ) (found : List (List Taken)) → start_of list ≡ Some start → Each (λ match. StartsNoLater match list) found
+    → Each (StartsBy start) found
 starts_by list start [] is h = tt
 starts_by list start (match ∷ found) is h = (by_start (start_of match) h.0, starts_by list start found is h.1) where
   by_start : (o : Option ℕ) → IfSome o (λ p. IfSome (start_of list) (λ q. p ≤ q)) → IfSome o (λ p. p ≤ start)
@@ -95,14 +100,17 @@ any_none [] = refl
 any_none (x ∷ xs) = any_none xs
 
 -- A kept match kills the list exactly where it starts below the reach.
-pub killed_below : (skip : Skip) (found : List (List Taken)) (reach : ℕ) (list : List Taken) → KillBelow skip found reach → Each (λ match. StartsNoLater match list) found → is_killed skip (map Match found) list ≡ starts_below reach list
+pub killed_below : (skip : Skip) (found : List (List Taken)) (reach : ℕ) (list : List Taken) → KillBelow skip found reach
+    → Each (λ match. StartsNoLater match list) found → is_killed skip (map Match found) list ≡ starts_below reach list
 unfolding kills
 killed_below skip found reach list below before = any_match (item_kills skip list) found ∙ by_start (start_of list) refl where
   by_start : (o : Option ℕ) → start_of list ≡ o → list_any (λ match. kills skip match list) found ≡ starts_below reach list
   by_start None is =
-      (λ i. list_any (λ match. option_map_or (kills_start skip match) (is i) false) found) ∙ any_none found ∙ ap (λ s. option_map_or (λ p. nat_lt p reach) s false) (sym is)
+      (λ i. list_any (λ match. option_map_or (kills_start skip match) (is i) false) found) ∙ any_none found
+      ∙ ap (λ s. option_map_or (λ p. nat_lt p reach) s false) (sym is)
   by_start (Some start) is =
-      (λ i. list_any (λ match. option_map_or (kills_start skip match) (is i) false) found) ∙ below start (starts_by list start found is before) ∙ ap (λ s. option_map_or (λ p. nat_lt p reach) s false) (sym is)
+      (λ i. list_any (λ match. option_map_or (kills_start skip match) (is i) false) found) ∙ below start (starts_by list start found is before)
+      ∙ ap (λ s. option_map_or (λ p. nat_lt p reach) s false) (sym is)
 
 -- before the first match nothing is killed
 pub KillBelow-none : (skip : Skip) → KillBelow skip [] 0
@@ -126,7 +134,8 @@ or_false false = refl
 
 -- one more kept match, with the range that it kills
 pub KillBelow-more : (skip : Skip) (found : List (List Taken)) (reach : ℕ) (match : List Taken) (range : Option (ℕ × ℕ)) → KillBelow skip found reach
-    → ((start : ℕ) → is_in range start ≡ kills_start skip match start) → IfSome range (λ r. start_of match ≡ Some r.0) → KillBelow skip (found ++ match ∷ []) (farther reach range)
+    → ((start : ℕ) → is_in range start ≡ kills_start skip match start) → IfSome range (λ r. start_of match ≡ Some r.0)
+    → KillBelow skip (found ++ match ∷ []) (farther reach range)
 KillBelow-more skip found reach match range below kills_in from start by =
     list_any-append (λ m. kills_start skip m start) found (match ∷ [])
     ∙ (λ i. below start (front found by) i || (or_false (kills_start skip match start) ∙ sym (kills_in start)) i)
@@ -151,5 +160,11 @@ pub kept_none : (skip : Skip) {lists found rest : List (List Taken)} → found �
 kept_none skip {lists = lists} {found = found} {rest = rest} none same small = (
   subst AreSmall (sym none) tt,
   subst AreSmall (sym same) small,
-  λ order. (ap (map Match) none, subst AreInStartOrder (sym same) order, subst (λ f. StartBefore f rest) (sym none) tt, subst (λ f. KillBelow skip f 0) (sym none) (KillBelow-none skip)),
+  λ order. (
+    ap (map Match) none,
+    subst AreInStartOrder (sym same) order,
+    subst (λ f. StartBefore f rest) (sym none) tt,
+    subst
+        (λ f. KillBelow skip f 0) (sym none) (KillBelow-none skip),
+  ),
 )

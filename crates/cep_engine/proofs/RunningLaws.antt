@@ -12,11 +12,13 @@ use Rattle.run_step.specs.Stepping.{StandsForSome}
 use Rattle.cep_engine.specs.Running.{IsSettled, RunsStand, RunsStandSome}
 
 -- starts that are the same
-pub RunsStand-same : (plan : Plan) (events : List Event) (starts other : ℕ → Bool) (content : Content) (buffer : BufferContent) → ((p : ℕ) → starts p ≡ other p) → RunsStand plan events starts content buffer → RunsStand plan events other content buffer
+pub RunsStand-same : (plan : Plan) (events : List Event) (starts other : ℕ → Bool) (content : Content) (buffer : BufferContent)
+    → ((p : ℕ) → starts p ≡ other p) → RunsStand plan events starts content buffer → RunsStand plan events other content buffer
 RunsStand-same plan events starts other content buffer same stands = subst (λ s. RunsStand plan events s content buffer) (λ i p. same p i) stands
 
 -- starts that are the same among the events so far
-pub RunsStand-agree : (plan : Plan) (events : List Event) (starts other : ℕ → Bool) (content : Content) (buffer : BufferContent) → ((p : ℕ) → p < length events → starts p ≡ other p)
+pub RunsStand-agree : (plan : Plan) (events : List Event) (starts other : ℕ → Bool) (content : Content) (buffer : BufferContent)
+    → ((p : ℕ) → p < length events → starts p ≡ other p)
     → RunsStand plan events starts content buffer → RunsStand plan events other content buffer
 RunsStand-agree plan events starts other content buffer agree runs =
     let before = runs.now.stands in
@@ -25,6 +27,7 @@ RunsStand-agree plan events starts other content buffer agree runs =
         stands = record {
           counted = before.counted;
           bumps = before.bumps;
+          empty = before.empty;
           waiters = before.waiters;
           stand = StandsFor-agree plan events starts other agree (runs_of plan [] ++ map (seen events) before.waiters) before.stand;
           runs = before.runs;
@@ -42,13 +45,17 @@ IsSettled-kept old new keeps settled key row found = settled key row (keeps.only
 
 -- runs were let go
 pub RunsStand-killed : (plan : Plan) (events : List Event) (starts other : ℕ → Bool) (old new : Content) (before after : BufferContent)
-    → (StandsNow plan events starts [] old before → StandsNow plan events other [] new after) → KeepsPins before after → RunsStand plan events starts old before → RunsStand plan events other new after
-RunsStand-killed plan events starts other old new before after kill keeps runs = record { now = kill runs.now; settled = IsSettled-kept before after keeps runs.settled }
+    → (StandsNow plan events starts [] old before → StandsNow plan events other [] new after) → KeepsPins before after
+    → RunsStand plan events starts old before → RunsStand plan events other new after
+RunsStand-killed plan events starts other old new before after kill keeps runs =
+    record { now = kill runs.now; settled = IsSettled-kept before after keeps runs.settled }
 
 -- what `kill` asks
 pub can_kill : (content : Content) (buffer : BufferContent) → RunsStandSome content buffer → StandsForSome content buffer
-can_kill content buffer some = record { plan = some.plan; somehow = record { events = some.events; starts = some.starts; tips = []; stands = some.stands.now.stands } }
+can_kill content buffer some =
+    record { plan = some.plan; somehow = record { events = some.events; starts = some.starts; tips = []; stands = some.stands.now.stands } }
 
 -- after runs were let go they stand for some starts
-pub killed_some : {old new : Content} {before after : BufferContent} {other : ℕ → Bool} → (some : RunsStandSome old before) → RunsStand some.plan some.events other new after → RunsStandSome new after
+pub killed_some : {old new : Content} {before after : BufferContent} {other : ℕ → Bool} → (some : RunsStandSome old before)
+    → RunsStand some.plan some.events other new after → RunsStandSome new after
 killed_some {other = other} some stands = record { plan = some.plan; events = some.events; starts = other; stands = stands }

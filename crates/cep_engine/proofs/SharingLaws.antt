@@ -10,5 +10,6 @@ use Rattle.sharing_laws.proofs.SharingLaws.{shares_now}
 use Rattle.time_limit.specs.Limits.{Kept}
 use Rattle.cep_engine.specs.Standing.{PartsStand}
 
-pub parts_share : (plan : Plan) (ticks : List Tick) (content : Content) (buffer : BufferContent) (saved : Kept) → PartsStand plan ticks content buffer saved → IsConsistent buffer → SharesExactly plan ticks content buffer
+pub parts_share : (plan : Plan) (ticks : List Tick) (content : Content) (buffer : BufferContent) (saved : Kept)
+    → PartsStand plan ticks content buffer saved → IsConsistent buffer → SharesExactly plan ticks content buffer
 parts_share plan ticks content buffer saved parts sound = shares_now plan ticks content buffer parts.runs.now parts.runs.settled sound

@@ -32,12 +32,14 @@ use Rattle.cep_engine.proofs.LoopLaws.{map-push, Each-get}
 
 -- ---- one tip
 
-module _ (plan : Plan) (events : List Event) (holder : Holder) (held : Holds) (tip : Tip) (buffer : BufferContent) (sound : IsConsistent buffer) (is : IsHeldTip plan events holder held tip buffer) where
+module _ (plan : Plan) (events : List Event) (holder : Holder) (held : Holds) (tip : Tip) (buffer : BufferContent) (sound : IsConsistent buffer)
+    (is : IsHeldTip plan events holder held tip buffer) where
   -- what `release` asks
   pub tip_hold : HasHold buffer.nodes tip.node tip.version
   tip_hold =
       subst (λ (k : ℕ). HasHold buffer.nodes k tip.version) (sym is.tip_is.node_is)
-      (subst (λ (v : List ℕ). HasHold buffer.nodes holder.node v) (sym is.tip_is.version_is) (has_hold plan events held buffer is.has sound holder.list holder.node is.is_held))
+      (subst (λ (v : List ℕ). HasHold buffer.nodes holder.node v) (sym is.tip_is.version_is)
+      (has_hold plan events held buffer is.has sound holder.list holder.node is.is_held))
 
   -- what `extract` asks
   pub tip_edge : HasEdgeAt buffer.nodes tip.node tip.version
@@ -52,10 +54,12 @@ module _ (plan : Plan) (events : List Event) (holder : Holder) (held : Holds) (t
       (path_of plan events held buffer is.has sound holder.list [] holder.node (is.has.stands holder.list holder.node is.is_held)))
 
   -- what `release` leaves
-  pub tip_released : (new : BufferContent) → IsConsistent new → ReleasesOneHold buffer.nodes new.nodes tip.node tip.version → KeepsEvents buffer.events new.events new.nodes → HoldsLists plan events (without_hold holder held) new
+  pub tip_released : (new : BufferContent) → IsConsistent new → ReleasesOneHold buffer.nodes new.nodes tip.node tip.version
+      → KeepsEvents buffer.events new.events new.nodes → HoldsLists plan events (without_hold holder held) new
   tip_released new sound_new releases keeps =
       HoldsLists-release plan events held buffer new is.has sound_new holder is.is_held
-      (subst (λ (k : ℕ). ReleasesOneHold buffer.nodes new.nodes k (label_of plan events holder.list)) is.tip_is.node_is (subst (λ (v : List ℕ). ReleasesOneHold buffer.nodes new.nodes tip.node v) is.tip_is.version_is releases)) keeps
+      (subst (λ (k : ℕ). ReleasesOneHold buffer.nodes new.nodes k (label_of plan events holder.list)) is.tip_is.node_is
+      (subst (λ (v : List ℕ). ReleasesOneHold buffer.nodes new.nodes tip.node v) is.tip_is.version_is releases)) keeps
 
 -- ---- tips that are read one after another
 
@@ -63,20 +67,23 @@ module _ (plan : Plan) (events : List Event) (holder : Holder) (held : Holds) (t
 abbrev pub no_holder : Holder
 no_holder = record { list = []; node = 0 }
 
-pub tips_length : (plan : Plan) (events : List Event) (holders : List Holder) (tips : List Tip) → AreTipsOf plan events holders tips → length holders ≡ length tips
+pub tips_length : (plan : Plan) (events : List Event) (holders : List Holder) (tips : List Tip) → AreTipsOf plan events holders tips
+    → length holders ≡ length tips
 tips_length plan events [] [] are = refl
 tips_length plan events [] (tip ∷ tips) are = absurd are
 tips_length plan events (holder ∷ holders) [] are = absurd are
 tips_length plan events (holder ∷ holders) (tip ∷ tips) are = ap suc (tips_length plan events holders tips are.1)
 
-tip_at : (plan : Plan) (events : List Event) (holders : List Holder) (tips : List Tip) (i : ℕ) (d : Holder) (e : Tip) → AreTipsOf plan events holders tips → i < length tips → IsTipOf plan events (get_or holders i d) (get_or tips i e)
+tip_at : (plan : Plan) (events : List Event) (holders : List Holder) (tips : List Tip) (i : ℕ) (d : Holder) (e : Tip)
+    → AreTipsOf plan events holders tips → i < length tips → IsTipOf plan events (get_or holders i d) (get_or tips i e)
 tip_at plan events [] [] i d e are lt = absurd (omega (arith, lt))
 tip_at plan events [] (tip ∷ tips) i d e are lt = absurd are
 tip_at plan events (holder ∷ holders) [] i d e are lt = absurd are
 tip_at plan events (holder ∷ holders) (tip ∷ tips) zero d e are lt = are.0
 tip_at plan events (holder ∷ holders) (tip ∷ tips) (suc i) d e are lt = tip_at plan events holders tips i d e are.1 (omega (arith, lt))
 
-module _ (plan : Plan) (events : List Event) (holders : List Holder) (held : Holds) (tips : List Tip) (buffer : BufferContent) (are : AreHeldTips plan events holders held tips buffer) (i : ℕ) (tip : Tip) (at : tip ≡ get_or tips i tip) (lt : i < length tips) where
+module _ (plan : Plan) (events : List Event) (holders : List Holder) (held : Holds) (tips : List Tip) (buffer : BufferContent)
+    (are : AreHeldTips plan events holders held tips buffer) (i : ℕ) (tip : Tip) (at : tip ≡ get_or tips i tip) (lt : i < length tips) where
   pub held_tip_at : IsHeldTip plan events (get_or holders i no_holder) held tip buffer
   held_tip_at = record {
     has = are.has;
@@ -88,16 +95,20 @@ module _ (plan : Plan) (events : List Event) (holders : List Holder) (held : Hol
   some_tip_at = record { plan = plan; events = events; holder = get_or holders i no_holder; held = held; is = held_tip_at }
 
   -- one more list was read
-  pub lists_more : (lists more : List (List Taken)) (list : List Taken) → more ≡ lists ++ list ∷ [] → lists ≡ map (λ holder. taken_of events holder.list) (take i holders) → list ≡ taken_of events (get_or holders i no_holder).list
+  pub lists_more : (lists more : List (List Taken)) (list : List Taken) → more ≡ lists ++ list ∷ []
+      → lists ≡ map (λ holder. taken_of events holder.list) (take i holders) → list ≡ taken_of events (get_or holders i no_holder).list
       → more ≡ map (λ holder. taken_of events holder.list) (take (i + 1) holders)
   lists_more lists more list pushed so_far read =
       pushed ∙ (λ j. so_far j ++ read j ∷ [])
-      ∙ sym (ap (map (λ holder. taken_of events holder.list)) (take_more holders i no_holder (omega (arith, lt, tips_length plan events holders tips are.tips_are)))
+      ∙ sym (ap (map (λ holder. taken_of events holder.list))
+      (take_more holders i no_holder (omega (arith, lt, tips_length plan events holders tips are.tips_are)))
       ∙ map-push (λ holder. taken_of events holder.list) (take i holders) (get_or holders i no_holder))
 
-pub lists_all : (plan : Plan) (events : List Event) (holders : List Holder) (tips : List Tip) (lists : List (List Taken)) (i : ℕ) → AreTipsOf plan events holders tips → length tips ≤ i
+pub lists_all : (plan : Plan) (events : List Event) (holders : List Holder) (tips : List Tip) (lists : List (List Taken)) (i : ℕ)
+    → AreTipsOf plan events holders tips → length tips ≤ i
     → lists ≡ map (λ holder. taken_of events holder.list) (take i holders) → lists ≡ map (λ holder. taken_of events holder.list) holders
-lists_all plan events holders tips lists i are past is = is ∙ ap (map (λ holder. taken_of events holder.list)) (take_all i holders (omega (arith, past, tips_length plan events holders tips are)))
+lists_all plan events holders tips lists i are past is = is
+    ∙ ap (map (λ holder. taken_of events holder.list)) (take_all i holders (omega (arith, past, tips_length plan events holders tips are)))
 
 -- ---- tips that are released one after another
 
@@ -122,31 +133,39 @@ frees_first plan events held (holder ∷ holders) tip tips buffer has are = reco
   after = λ new later. record {
     holders = holders;
     are = record {
-      has = HoldsLists-same plan events (without_hold holder (both_hold held (held_by (holder ∷ holders)))) (both_hold held (held_by holders)) new (λ list key. omega (arith, held_by-cons holder holders list key)) later;
+      has =
+          HoldsLists-same plan events (without_hold holder (both_hold held (held_by (holder ∷ holders)))) (both_hold held (held_by holders)) new
+          (λ list key. omega (arith, held_by-cons holder holders list key)) later;
       tips_are = are.1;
     };
   };
 }
 
-pub frees_one : (plan : Plan) (events : List Event) (held : Holds) (tip : Tip) (tips : List Tip) (buffer : BufferContent) → Freeing plan events held (tip ∷ tips) buffer → FreesOne plan events held tip tips buffer
+pub frees_one : (plan : Plan) (events : List Event) (held : Holds) (tip : Tip) (tips : List Tip) (buffer : BufferContent)
+    → Freeing plan events held (tip ∷ tips) buffer → FreesOne plan events held tip tips buffer
 frees_one plan events held tip tips buffer freeing = frees_first plan events held freeing.holders tip tips buffer freeing.are.has freeing.are.tips_are
 
-pub some_frees : (plan : Plan) (events : List Event) (held : Holds) (tip : Tip) (tips : List Tip) (buffer : BufferContent) → Freeing plan events held (tip ∷ tips) buffer → IsSomeTip tip buffer
+pub some_frees : (plan : Plan) (events : List Event) (held : Holds) (tip : Tip) (tips : List Tip) (buffer : BufferContent)
+    → Freeing plan events held (tip ∷ tips) buffer → IsSomeTip tip buffer
 some_frees plan events held tip tips buffer freeing =
     let one = frees_one plan events held tip tips buffer freeing in
     record { plan = plan; events = events; holder = one.holder; held = one.before; is = one.is }
 
-none_left : (plan : Plan) (events : List Event) (held : Holds) (holders : List Holder) (buffer : BufferContent) → HoldsLists plan events (both_hold held (held_by holders)) buffer → AreTipsOf plan events holders [] → HoldsLists plan events held buffer
+none_left : (plan : Plan) (events : List Event) (held : Holds) (holders : List Holder) (buffer : BufferContent)
+    → HoldsLists plan events (both_hold held (held_by holders)) buffer → AreTipsOf plan events holders [] → HoldsLists plan events held buffer
 none_left plan events held [] buffer has are = HoldsLists-same plan events (both_hold held (held_by [])) held buffer (λ list key. omega arith) has
 none_left plan events held (holder ∷ holders) buffer has are = absurd are
 
-pub frees_all : (plan : Plan) (events : List Event) (held : Holds) (tips : List Tip) (buffer : BufferContent) → length tips ≡ 0 → Freeing plan events held tips buffer → HoldsLists plan events held buffer
+pub frees_all : (plan : Plan) (events : List Event) (held : Holds) (tips : List Tip) (buffer : BufferContent) → length tips ≡ 0
+    → Freeing plan events held tips buffer → HoldsLists plan events held buffer
 frees_all plan events held [] buffer none freeing = none_left plan events held freeing.holders buffer freeing.are.has freeing.are.tips_are
 frees_all plan events held (tip ∷ tips) buffer none freeing = absurd (omega (arith, none))
 
 -- one more was released
-pub freed_turn : (tips : List Tip) (tip : Tip) (rest later : List Tip) {left after : ℕ} (old buffer new : BufferContent) → rest ≡ tip ∷ later → length later ≡ after → IsFreeing tips rest left old buffer
-    → ((plan : Plan) (events : List Event) (holder : Holder) (held : Holds) → IsHeldTip plan events holder held tip buffer → HoldsLists plan events (without_hold holder held) new) → KeepsPins buffer new
+pub freed_turn : (tips : List Tip) (tip : Tip) (rest later : List Tip) {left after : ℕ} (old buffer new : BufferContent) → rest ≡ tip ∷ later
+    → length later ≡ after → IsFreeing tips rest left old buffer
+    → ((plan : Plan) (events : List Event) (holder : Holder) (held : Holds) → IsHeldTip plan events holder held tip buffer
+    → HoldsLists plan events (without_hold holder held) new) → KeepsPins buffer new
     → IsFreeing tips later after old new
 freed_turn tips tip rest later old buffer new parts counted before released keeps = record {
   counted = counted;

@@ -50,7 +50,8 @@ IsBelow position (Timeout list) = ⊤
 abbrev pub AreBelow : ℕ → List Item → Type 0
 AreBelow position items = Each (IsBelow position) items
 
--- The runs, the buffer and the limits stand for the ticks: the runs are those of the live lists with an open start, the buffer holds their lists alone, and the limits hold the open starts.
+-- The runs, the buffer and the limits stand for the ticks: the runs are those of the live lists with an open start, the buffer holds their lists
+-- alone, and the limits hold the open starts.
 pub record PartsStand (plan : Plan) (ticks : List Tick) (content : Content) (buffer : BufferContent) (saved : Kept) : Type 0 where
   pub runs : RunsStand plan (events_of ticks) (open_after plan ticks) content buffer
   pub limits : saved ≡ record { within = plan.within; starts = starts_among plan (events_of ticks) (open_after plan ticks) }

@@ -61,5 +61,6 @@ pub record Freeing (plan : Plan) (events : List Event) (held : Holds) (tips : Li
 -- in the midst of it: so many tips are left
 pub record IsFreeing (tips rest : List Tip) (left : ℕ) (old buffer : BufferContent) : Type 0 where
   pub counted : length rest ≡ left
-  pub freeing : (plan : Plan) (events : List Event) (holders : List Holder) (held : Holds) → AreFreedTips plan events holders held tips old → Freeing plan events held rest buffer
+  pub freeing : (plan : Plan) (events : List Event) (holders : List Holder) (held : Holds) → AreFreedTips plan events holders held tips old
+      → Freeing plan events held rest buffer
   pub pins : KeepsPins old buffer

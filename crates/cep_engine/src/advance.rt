@@ -30,7 +30,9 @@ pub fn advance(
     requires nfa { nfa.now ≡ automaton_of plan.now }
     requires room { runs.old.position < 2 ^ 32 - 1 }
     requires stands { CanAdvance plan.now runs.old buffer.old }
-    ensures advanced { (events : List EventRow) (starts : ℕ → Bool) → starts (length events) ≡ true → RunsStand plan.now events starts runs.old buffer.old → IfOk result (λ lists. HasAdvanced plan.now events event starts lists runs.new buffer.new) }
+    ensures advanced { (events : List EventRow) (starts : ℕ → Bool) → starts (length events) ≡ true
+        → RunsStand plan.now events starts runs.old buffer.old
+        → IfOk result (λ lists. HasAdvanced plan.now events event starts lists runs.new buffer.new) }
     ensures position { IfOk result (λ lists. runs.new.position ≡ runs.old.position + 1) }
 {
     let position = runs.position();
@@ -51,7 +53,8 @@ pub fn waiting_lists(
     alloc: Global,
 ) -> Result<TakenLists, NoMemory>
     requires { CanShow nfa.now start runs.now buffer.now }
-    ensures { (plan : PlanRow) (events : List EventRow) (starts : ℕ → Bool) → IsCompilable plan → nfa.now ≡ automaton_of plan → starts start ≡ true → RunsStand plan events starts runs.now buffer.now → IfOk result (λ lists. lists ≡ map (taken_of events) (waiting_at plan events start)) }
+    ensures { (plan : PlanRow) (events : List EventRow) (starts : ℕ → Bool) → IsCompilable plan → nfa.now ≡ automaton_of plan → starts start ≡ true
+        → RunsStand plan events starts runs.now buffer.now → IfOk result (λ lists. lists ≡ map (taken_of events) (waiting_at plan events start)) }
 {
     let tips = waiting(runs, buffer, nfa, start)?;
     let lists = read_lists(&tips, buffer, alloc)?;

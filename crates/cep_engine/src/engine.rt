@@ -13,6 +13,7 @@ ghost use Rattle.cep_engine.specs.declared.engine.EngineFault.TheVariants as fau
 use crate::tick::{take_event, take_mark};
 use cep_event::{Event, Moment, NoMemory};
 use cep_plan::{ItemList, Plan};
+use cond_sums::Asked;
 use nfa_compile::{Nfa, compile};
 use run_step::RunSet;
 use shared_buffer::{Buffer, Held};
@@ -63,10 +64,10 @@ pub struct Engine {
     alloc: Global,
     plan: Plan,
     // The plan's automaton.
-    pub(crate) nfa: Nfa,
-    pub(crate) runs: RunSet,
+    nfa: Nfa,
+    runs: RunSet,
     // The events, nodes and edges of the runs' lists.
-    pub(crate) buffer: Buffer,
+    buffer: Buffer,
     limits: Limits,
     // The time of the last tick in milliseconds.
     last: Option<i64>,
@@ -97,10 +98,12 @@ impl Engine {
         requires plan { IsCompilable plan }
         requires within { HasRoom plan }
         ensures stands { IfOk result (λ engine. StandsFor [] engine) }
-        ensures fresh { IfOk result (λ engine. (engine.plan ≡ plan) × (engine.last ≡ None) × (engine.runs.position ≡ 0) × (engine.items ≡ []) × (engine.spent ≡ false)) }
+        ensures fresh { IfOk result (λ engine. (engine.plan ≡ plan) × (engine.last ≡ None) × (engine.runs.position ≡ 0) × (engine.items ≡ [])
+            × (engine.spent ≡ false)) }
     {
         let nfa = compile(alloc, &plan)?;
-        let runs = RunSet::new(alloc, &nfa)?;
+        let asked = Asked::of(alloc, &plan)?;
+        let runs = RunSet::new(alloc, &nfa, &asked)?;
         let buffer = Buffer::new(alloc);
         let limits = Limits::new(alloc, plan.within);
         let items = ItemList::new(alloc);
@@ -160,8 +163,10 @@ impl Engine {
         ensures err { OnErr result ((self.new.spent ≡ true) × (self.new.items ≡ self.old.items)) }
         ensures ok { OnOk result ((self.new.spent ≡ false) × (self.new.last ≡ Some event.ts) × (self.new.runs.position ≡ self.old.runs.position + 1)) }
         ensures stands { (ticks : List Tick) → StandsFor ticks self.old → IfOk result (λ done. StandsFor (ticks ++ event_tick event ∷ []) self.new) }
-        ensures items { (ticks : List Tick) → StandsFor ticks self.old → IfOk result (λ done. self.new.items ≡ self.old.items ++ kept_at self.old.plan ticks (event_tick event)) }
-        ensures shares { (ticks : List Tick) → StandsFor ticks self.old → IfOk result (λ done. SharesExactly self.old.plan (ticks ++ event_tick event ∷ []) self.new.runs self.new.buffer) }
+        ensures items { (ticks : List Tick) → StandsFor ticks self.old
+            → IfOk result (λ done. self.new.items ≡ self.old.items ++ kept_at self.old.plan ticks (event_tick event)) }
+        ensures shares { (ticks : List Tick) → StandsFor ticks self.old
+            → IfOk result (λ done. SharesExactly self.old.plan (ticks ++ event_tick event ∷ []) self.new.runs self.new.buffer) }
     {
         self.spent = true;
         let event_time = event.ts;
@@ -189,8 +194,10 @@ impl Engine {
         ensures err { OnErr result ((self.new.spent ≡ true) × (self.new.items ≡ self.old.items)) }
         ensures ok { OnOk result ((self.new.spent ≡ false) × (self.new.last ≡ Some time) × (self.new.runs.position ≡ self.old.runs.position)) }
         ensures stands { (ticks : List Tick) → StandsFor ticks self.old → IfOk result (λ done. StandsFor (ticks ++ mark_tick (At time) ∷ []) self.new) }
-        ensures items { (ticks : List Tick) → StandsFor ticks self.old → IfOk result (λ done. self.new.items ≡ self.old.items ++ kept_at self.old.plan ticks (mark_tick (At time))) }
-        ensures shares { (ticks : List Tick) → StandsFor ticks self.old → IfOk result (λ done. SharesExactly self.old.plan (ticks ++ mark_tick (At time) ∷ []) self.new.runs self.new.buffer) }
+        ensures items { (ticks : List Tick) → StandsFor ticks self.old
+            → IfOk result (λ done. self.new.items ≡ self.old.items ++ kept_at self.old.plan ticks (mark_tick (At time))) }
+        ensures shares { (ticks : List Tick) → StandsFor ticks self.old
+            → IfOk result (λ done. SharesExactly self.old.plan (ticks ++ mark_tick (At time) ∷ []) self.new.runs self.new.buffer) }
     {
         self.spent = true;
         let now = Moment::At(time);
@@ -220,8 +227,10 @@ impl Engine {
         ensures no_memory { result ≡ Err fault.NoMemory → (self.new.spent ≡ true) × (self.new.items ≡ self.old.items) }
         ensures ok { OnOk result ((self.new.spent ≡ false) × (self.new.last ≡ Some event.ts) × (self.new.runs.position ≡ self.old.runs.position + 1)) }
         ensures stands { (ticks : List Tick) → StandsFor ticks self.old → IfOk result (λ done. StandsFor (ticks ++ event_tick event ∷ []) self.new) }
-        ensures items { (ticks : List Tick) → StandsFor ticks self.old → IfOk result (λ done. self.new.items ≡ self.old.items ++ kept_at self.old.plan ticks (event_tick event)) }
-        ensures shares { (ticks : List Tick) → StandsFor ticks self.old → IfOk result (λ done. SharesExactly self.old.plan (ticks ++ event_tick event ∷ []) self.new.runs self.new.buffer) }
+        ensures items { (ticks : List Tick) → StandsFor ticks self.old
+            → IfOk result (λ done. self.new.items ≡ self.old.items ++ kept_at self.old.plan ticks (event_tick event)) }
+        ensures shares { (ticks : List Tick) → StandsFor ticks self.old
+            → IfOk result (λ done. SharesExactly self.old.plan (ticks ++ event_tick event ∷ []) self.new.runs self.new.buffer) }
     {
         if self.spent {
             return Err(EngineFault::Spent);
@@ -242,8 +251,10 @@ impl Engine {
         ensures no_memory { result ≡ Err fault.NoMemory → (self.new.spent ≡ true) × (self.new.items ≡ self.old.items) }
         ensures ok { OnOk result ((self.new.spent ≡ false) × (self.new.last ≡ Some time) × (self.new.runs.position ≡ self.old.runs.position)) }
         ensures stands { (ticks : List Tick) → StandsFor ticks self.old → IfOk result (λ done. StandsFor (ticks ++ mark_tick (At time) ∷ []) self.new) }
-        ensures items { (ticks : List Tick) → StandsFor ticks self.old → IfOk result (λ done. self.new.items ≡ self.old.items ++ kept_at self.old.plan ticks (mark_tick (At time))) }
-        ensures shares { (ticks : List Tick) → StandsFor ticks self.old → IfOk result (λ done. SharesExactly self.old.plan (ticks ++ mark_tick (At time) ∷ []) self.new.runs self.new.buffer) }
+        ensures items { (ticks : List Tick) → StandsFor ticks self.old
+            → IfOk result (λ done. self.new.items ≡ self.old.items ++ kept_at self.old.plan ticks (mark_tick (At time))) }
+        ensures shares { (ticks : List Tick) → StandsFor ticks self.old
+            → IfOk result (λ done. SharesExactly self.old.plan (ticks ++ mark_tick (At time) ∷ []) self.new.runs self.new.buffer) }
     {
         if self.spent {
             return Err(EngineFault::Spent);

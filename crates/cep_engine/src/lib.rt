@@ -3,11 +3,7 @@
 
 mod advance;
 mod engine;
-#[cfg(test)]
-mod held_tests;
 mod matches;
-#[cfg(test)]
-mod tests;
 mod tick;
 mod timeouts;
 mod tips;

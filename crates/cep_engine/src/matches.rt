@@ -59,7 +59,8 @@ pub fn kept_matches(skip: Skip, lists: TakenLists) -> Result<TakenLists, NoMemor
 /// Lets the runs go that start in the range, and what the buffer held for them. It takes no memory.
 pub fn kill_range(runs: &mut RunSet, buffer: &mut Buffer, range: Option<(u32, u32)>)
     requires { RunsStandSome runs.old buffer.old }
-    ensures runs { (plan : Plan) (events : List Event) (starts : ℕ → Bool) → RunsStand plan events starts runs.old buffer.old → RunsStand plan events (λ p. starts p && not (is_in range p)) runs.new buffer.new }
+    ensures runs { (plan : Plan) (events : List Event) (starts : ℕ → Bool) → RunsStand plan events starts runs.old buffer.old
+        → RunsStand plan events (λ p. starts p && not (is_in range p)) runs.new buffer.new }
     ensures position { runs.new.position ≡ runs.old.position }
 {
     match range {
@@ -81,7 +82,8 @@ pub fn drop_starts(limits: &mut Limits, range: Option<(u32, u32)>)
 /// Lets the runs go that the matches kill, and what the buffer held for them. It takes no memory.
 pub fn kill_runs(runs: &mut RunSet, buffer: &mut Buffer, skip: Skip, found: &TakenLists)
     requires { RunsStandSome runs.old buffer.old }
-    ensures runs { AreSmall found.now → (plan : Plan) (events : List Event) (starts : ℕ → Bool) → RunsStand plan events starts runs.old buffer.old → RunsStand plan events (λ p. starts p && not (list_any (item_kills_start skip p) (map Match found.now))) runs.new buffer.new }
+    ensures runs { AreSmall found.now → (plan : Plan) (events : List Event) (starts : ℕ → Bool) → RunsStand plan events starts runs.old buffer.old
+        → RunsStand plan events (λ p. starts p && not (list_any (item_kills_start skip p) (map Match found.now))) runs.new buffer.new }
     ensures position { runs.new.position ≡ runs.old.position }
 {
     for list in found.as_slice() {
@@ -91,8 +93,11 @@ pub fn kill_runs(runs: &mut RunSet, buffer: &mut Buffer, skip: Skip, found: &Tak
 
 /// Takes out the starts that the matches kill. It takes no memory.
 pub fn drop_killed(limits: &mut Limits, skip: Skip, found: &TakenLists)
-    ensures left { AreSmall found.now → limits.new ≡ record limits.old { starts = filter (λ s. not (list_any (item_kills_start skip s.position) (map Match found.now))) limits.old.starts } }
-    ensures behind { (position : ℕ) (time : ℤ) → Each (λ s. (s.position < position) × (int_le s.ts time ≡ true)) limits.old.starts → Each (λ s. (s.position < position) × (int_le s.ts time ≡ true)) limits.new.starts }
+    ensures left { AreSmall found.now
+        → limits.new
+        ≡ record limits.old { starts = filter (λ s. not (list_any (item_kills_start skip s.position) (map Match found.now))) limits.old.starts } }
+    ensures behind { (position : ℕ) (time : ℤ) → Each (λ s. (s.position < position) × (int_le s.ts time ≡ true)) limits.old.starts
+        → Each (λ s. (s.position < position) × (int_le s.ts time ≡ true)) limits.new.starts }
 {
     for list in found.as_slice() {
         drop_starts(limits, cut(skip, list));

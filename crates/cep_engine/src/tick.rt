@@ -30,10 +30,13 @@ pub fn take_mark(
 ) -> Result<ItemList, NoMemory>
     requires behind { Each (λ s. s.position < runs.old.position) limits.old.starts }
     requires stands { PartsStandSome nfa.now runs.old buffer.old limits.old }
-    ensures items { (plan : PlanRow) (ticks : List Tick) → IsCompilable plan → nfa.now ≡ automaton_of plan → PartsStand plan ticks runs.old buffer.old limits.old → IfOk result (λ items. items ≡ kept_at plan ticks (mark_tick now)) }
-    ensures parts { (plan : PlanRow) (ticks : List Tick) → PartsStand plan ticks runs.old buffer.old limits.old → ComesLater ticks now → IfOk result (λ items. PartsStand plan (ticks ++ mark_tick now ∷ []) runs.new buffer.new limits.new) }
+    ensures items { (plan : PlanRow) (ticks : List Tick) → IsCompilable plan → nfa.now ≡ automaton_of plan
+        → PartsStand plan ticks runs.old buffer.old limits.old → IfOk result (λ items. items ≡ kept_at plan ticks (mark_tick now)) }
+    ensures parts { (plan : PlanRow) (ticks : List Tick) → PartsStand plan ticks runs.old buffer.old limits.old → ComesLater ticks now
+        → IfOk result (λ items. PartsStand plan (ticks ++ mark_tick now ∷ []) runs.new buffer.new limits.new) }
     ensures position { IfOk result (λ items. runs.new.position ≡ runs.old.position) }
-    ensures behind { (time : ℤ) → Each (λ s. (s.position < runs.old.position) × (int_le s.ts time ≡ true)) limits.old.starts → IfOk result (λ items. Each (λ s. (s.position < runs.new.position) × (int_le s.ts time ≡ true)) limits.new.starts) }
+    ensures behind { (time : ℤ) → Each (λ s. (s.position < runs.old.position) × (int_le s.ts time ≡ true)) limits.old.starts
+        → IfOk result (λ items. Each (λ s. (s.position < runs.new.position) × (int_le s.ts time ≡ true)) limits.new.starts) }
 {
     // The position is a `u32`, so each start before it has a next one.
     let _ = runs.position();
@@ -57,8 +60,10 @@ pub fn take_event(
     requires room { runs.old.position < 2 ^ 32 - 1 }
     requires behind { Each (λ s. (s.position < runs.old.position) × (int_le s.ts event.ts ≡ true)) limits.old.starts }
     requires stands { CanTakeEvent plan.now event runs.old buffer.old limits.old }
-    ensures items { (ticks : List Tick) → PartsStand plan.now ticks runs.old buffer.old limits.old → ComesLater ticks (At event.ts) → IfOk result (λ items. items ≡ kept_at plan.now ticks (event_tick event)) }
-    ensures parts { (ticks : List Tick) → PartsStand plan.now ticks runs.old buffer.old limits.old → ComesLater ticks (At event.ts) → IfOk result (λ items. PartsStand plan.now (ticks ++ event_tick event ∷ []) runs.new buffer.new limits.new) }
+    ensures items { (ticks : List Tick) → PartsStand plan.now ticks runs.old buffer.old limits.old → ComesLater ticks (At event.ts)
+        → IfOk result (λ items. items ≡ kept_at plan.now ticks (event_tick event)) }
+    ensures parts { (ticks : List Tick) → PartsStand plan.now ticks runs.old buffer.old limits.old → ComesLater ticks (At event.ts)
+        → IfOk result (λ items. PartsStand plan.now (ticks ++ event_tick event ∷ []) runs.new buffer.new limits.new) }
     ensures position { IfOk result (λ items. runs.new.position ≡ runs.old.position + 1) }
     ensures behind { IfOk result (λ items. Each (λ s. (s.position < runs.new.position) × (int_le s.ts event.ts ≡ true)) limits.new.starts) }
 {

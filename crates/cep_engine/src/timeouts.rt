@@ -55,7 +55,9 @@ pub fn timeouts(
     alloc: Global,
 ) -> Result<ItemList, NoMemory>
     requires { CanShowAll nfa.now due.now runs.now buffer.now }
-    ensures { (plan : Plan) (events : List Event) (starts : ℕ → Bool) → IsCompilable plan → nfa.now ≡ automaton_of plan → Each (λ s. starts s ≡ true) due.now → RunsStand plan events starts runs.now buffer.now → IfOk result (λ items. items ≡ map (λ list. Timeout (taken_of events list)) (flat_map (waiting_at plan events) due.now)) }
+    ensures { (plan : Plan) (events : List Event) (starts : ℕ → Bool) → IsCompilable plan → nfa.now ≡ automaton_of plan
+        → Each (λ s. starts s ≡ true) due.now → RunsStand plan events starts runs.now buffer.now
+        → IfOk result (λ items. items ≡ map (λ list. Timeout (taken_of events list)) (flat_map (waiting_at plan events) due.now)) }
 {
     let mut items = ItemList::new(alloc);
     for start in due.as_slice() {
@@ -68,7 +70,8 @@ pub fn timeouts(
 pub fn kill_starts(runs: &mut RunSet, buffer: &mut Buffer, due: &PositionList)
     requires small { Each (λ s. s < 2 ^ 32 - 1) due.now }
     requires stands { RunsStandSome runs.old buffer.old }
-    ensures runs { (plan : Plan) (events : List Event) (starts : ℕ → Bool) → RunsStand plan events starts runs.old buffer.old → RunsStand plan events (λ p. starts p && not (list_any (λ s. s == p) due.now)) runs.new buffer.new }
+    ensures runs { (plan : Plan) (events : List Event) (starts : ℕ → Bool) → RunsStand plan events starts runs.old buffer.old
+        → RunsStand plan events (λ p. starts p && not (list_any (λ s. s == p) due.now)) runs.new buffer.new }
     ensures position { runs.new.position ≡ runs.old.position }
 {
     for start in due.as_slice() {
@@ -87,8 +90,13 @@ pub fn time_out(
 ) -> Result<ItemList, NoMemory>
     requires small { Each (λ s. s.position < 2 ^ 32 - 1) limits.old.starts }
     requires open { CanShowAll nfa.now (map (λ s. s.position) limits.old.starts) runs.old buffer.old }
-    ensures items { (plan : Plan) (events : List Event) (starts : ℕ → Bool) → IsCompilable plan → nfa.now ≡ automaton_of plan → Each (λ s. starts s.position ≡ true) limits.old.starts → RunsStand plan events starts runs.old buffer.old → IfOk result (λ items. items ≡ map (λ list. Timeout (taken_of events list)) (flat_map (waiting_at plan events) (due_among limits.old.within now limits.old.starts))) }
-    ensures runs { (plan : Plan) (events : List Event) (starts : ℕ → Bool) → RunsStand plan events starts runs.old buffer.old → IfOk result (λ items. RunsStand plan events (λ p. starts p && not (list_any (λ s. s == p) (due_among limits.old.within now limits.old.starts))) runs.new buffer.new) }
+    ensures items { (plan : Plan) (events : List Event) (starts : ℕ → Bool) → IsCompilable plan → nfa.now ≡ automaton_of plan
+        → Each (λ s. starts s.position ≡ true) limits.old.starts → RunsStand plan events starts runs.old buffer.old
+        → IfOk result (λ items. items
+        ≡ map (λ list. Timeout (taken_of events list)) (flat_map (waiting_at plan events) (due_among limits.old.within now limits.old.starts))) }
+    ensures runs { (plan : Plan) (events : List Event) (starts : ℕ → Bool) → RunsStand plan events starts runs.old buffer.old
+        → IfOk result (λ items. RunsStand plan events
+        (λ p. starts p && not (list_any (λ s. s == p) (due_among limits.old.within now limits.old.starts))) runs.new buffer.new) }
     ensures limits { IfOk result (λ items. limits.new ≡ record limits.old { starts = left_among limits.old.within now limits.old.starts }) }
     ensures position { IfOk result (λ items. runs.new.position ≡ runs.old.position) }
 {

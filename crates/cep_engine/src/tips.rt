@@ -19,7 +19,8 @@ use std::alloc::Global;
 /// The events of the tip's list, as copies.
 pub fn read_list(tip: &Tip, buffer: &Buffer, alloc: Global) -> Result<TakenList, NoMemory>
     requires { IsSomeTip tip.now buffer.now }
-    ensures { (plan : PlanRow) (events : List EventRow) (holder : Holder) (held : Holds) → IsHeldTip plan events holder held tip.now buffer.now → IfOk result (λ list. list ≡ taken_of events holder.list) }
+    ensures { (plan : PlanRow) (events : List EventRow) (holder : Holder) (held : Holds) → IsHeldTip plan events holder held tip.now buffer.now
+        → IfOk result (λ list. list ≡ taken_of events holder.list) }
 {
     buffer.facts();
     let list = extract(alloc, buffer, tip.node, &tip.version)?;
@@ -29,7 +30,9 @@ pub fn read_list(tip: &Tip, buffer: &Buffer, alloc: Global) -> Result<TakenList,
 /// The lists of the tips, one by one.
 pub fn read_lists(tips: &TipList, buffer: &Buffer, alloc: Global) -> Result<TakenLists, NoMemory>
     requires { AreSomeTips tips.now buffer.now }
-    ensures { (plan : PlanRow) (events : List EventRow) (holders : List Holder) (held : Holds) → AreHeldTips plan events holders held tips.now buffer.now → IfOk result (λ lists. lists ≡ map (λ holder. taken_of events holder.list) holders) }
+    ensures { (plan : PlanRow) (events : List EventRow) (holders : List Holder) (held : Holds)
+        → AreHeldTips plan events holders held tips.now buffer.now
+        → IfOk result (λ lists. lists ≡ map (λ holder. taken_of events holder.list) holders) }
 {
     let mut lists = TakenLists::new(alloc);
     for tip in tips.as_slice() {
@@ -41,7 +44,8 @@ pub fn read_lists(tips: &TipList, buffer: &Buffer, alloc: Global) -> Result<Take
 /// Gives back the hold of the tip. It takes no memory.
 pub fn release_tip(tip: &Tip, buffer: &mut Buffer)
     requires { IsSomeTip tip.now buffer.old }
-    ensures held { (plan : PlanRow) (events : List EventRow) (holder : Holder) (held : Holds) → IsHeldTip plan events holder held tip.now buffer.old → HoldsLists plan events (without_hold holder held) buffer.new }
+    ensures held { (plan : PlanRow) (events : List EventRow) (holder : Holder) (held : Holds) → IsHeldTip plan events holder held tip.now buffer.old
+        → HoldsLists plan events (without_hold holder held) buffer.new }
     ensures pins { KeepsPins buffer.old buffer.new }
 {
     buffer.facts();
@@ -51,7 +55,8 @@ pub fn release_tip(tip: &Tip, buffer: &mut Buffer)
 /// Gives back the holds of the tips. It takes no memory.
 pub fn release_tips(tips: TipList, buffer: &mut Buffer)
     requires { AreSomeFreed tips buffer.old }
-    ensures held { (plan : PlanRow) (events : List EventRow) (holders : List Holder) (held : Holds) → AreFreedTips plan events holders held tips buffer.old → HoldsLists plan events held buffer.new }
+    ensures held { (plan : PlanRow) (events : List EventRow) (holders : List Holder) (held : Holds)
+        → AreFreedTips plan events holders held tips buffer.old → HoldsLists plan events held buffer.new }
     ensures pins { KeepsPins buffer.old buffer.new }
 {
     for tip in tips.into_vec() {

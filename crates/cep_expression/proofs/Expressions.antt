@@ -115,7 +115,9 @@ term_sign_is t o e = cases (symbol (codes "+") t) (symbol (codes "-") t) e where
 comparator_is : (t : Lexeme) (o : Cmp) → comparator t ≡ Some o → is_comparator t ≡ true
 unfolding comparator
 comparator_is t o e = cases (symbol (codes "==") t) (symbol (codes "!=") t) (symbol (codes "<") t) (symbol (codes "<=") t) (symbol (codes ">") t) (symbol (codes ">=") t) e where
-  cases : (a b c d f g : Bool) → cond a (Some cmp.Eq) (cond b (Some cmp.Ne) (cond c (Some cmp.Lt) (cond d (Some cmp.Le) (cond f (Some cmp.Gt) (cond g (Some cmp.Ge) None))))) ≡ Some o → a || (b || (c || (d || (f || (g || false))))) ≡ true
+  cases : (a b c d f g : Bool)
+      → cond a (Some cmp.Eq) (cond b (Some cmp.Ne) (cond c (Some cmp.Lt) (cond d (Some cmp.Le) (cond f (Some cmp.Gt) (cond g (Some cmp.Ge) None)))))
+      ≡ Some o → a || (b || (c || (d || (f || (g || false))))) ≡ true
   cases true b c d f g h = refl
   cases false true c d f g h = refl
   cases false false true d f g h = refl
@@ -187,7 +189,8 @@ behind (Some c, v) = rule.◌or◌ (grammar.arguments c) (rule.pure v)
 
 -- what a Word says, in one step and in two
 
-meaning_parts : (k : TokenKind) (text : List ℕ) (place : ℕ) (x : Option Call × SynNode) → terminal.meaning_by k text place ≡ Some x → (terminal.plain_by k text place ≡ Some x.1) × (terminal.call_by k text ≡ x.0)
+meaning_parts : (k : TokenKind) (text : List ℕ) (place : ℕ) (x : Option Call × SynNode) → terminal.meaning_by k text place ≡ Some x
+    → (terminal.plain_by k text place ≡ Some x.1) × (terminal.call_by k text ≡ x.0)
 meaning_parts token.Word text place x e = let is : (call_of text, plain_word text place) ≡ x = some_value e in (ap (λ y. Some y.1) is, ap (λ y. y.0) is) where
   some_value : {A : Type 0} {x y : A} → Some x ≡ Some y → x ≡ y
   some_value e = cc
@@ -195,13 +198,15 @@ meaning_parts token.Number text place x e = cc
 meaning_parts token.Literal text place x e = cc
 meaning_parts token.Symbol text place x e = cc
 
-meaning_of_plain : (k : TokenKind) (text : List ℕ) (place : ℕ) (v : SynNode) → terminal.plain_by k text place ≡ Some v → terminal.meaning_by k text place ≡ Some (terminal.call_by k text, v)
+meaning_of_plain : (k : TokenKind) (text : List ℕ) (place : ℕ) (v : SynNode) → terminal.plain_by k text place ≡ Some v
+    → terminal.meaning_by k text place ≡ Some (terminal.call_by k text, v)
 meaning_of_plain token.Word text place v e = let is : plain_word text place ≡ v = cc in ap (λ y. Some (call_of text, y)) is
 meaning_of_plain token.Number text place v e = cc
 meaning_of_plain token.Literal text place v e = cc
 meaning_of_plain token.Symbol text place v e = cc
 
-plain_of_call : (k : TokenKind) (text : List ℕ) (place : ℕ) (c : Call) → terminal.call_by k text ≡ Some c → terminal.meaning_by k text place ≡ Some (Some c, plain_word text place)
+plain_of_call : (k : TokenKind) (text : List ℕ) (place : ℕ) (c : Call) → terminal.call_by k text ≡ Some c
+    → terminal.meaning_by k text place ≡ Some (Some c, plain_word text place)
 plain_of_call token.Word text place c e = ap (λ y. Some (y, plain_word text place)) e
 plain_of_call token.Number text place c e = cc
 plain_of_call token.Literal text place c e = cc
@@ -245,7 +250,13 @@ to_two used v (inr h) = record {
   back = h.back;
   value = (Some h.value, plain_word h.first.token.text h.first.token.place);
   is = h.is;
-  first = record { token = h.first.token; is = h.first.is; gives = plain_of_call h.first.token.kind h.first.token.text h.first.token.place h.value h.first.gives };
+  first =
+      record {
+        token = h.first.token;
+        is = h.first.is;
+        gives =
+            plain_of_call h.first.token.kind h.first.token.text h.first.token.place h.value h.first.gives;
+      };
   second = inl h.second;
 }
 
@@ -347,8 +358,10 @@ linked_rule signs made r k = rule.◌>>=◌ (rule.one signs) (λ o. rule.◌>>=�
 abbrev after_chain : (Lexeme → Bool) → (Lexeme → Bool) → Lexeme → Bool
 after_chain is_sign between t = is_sign t || between t
 
-module _ {q : Bool} {n : ℕ} {O T : Type 0} (is_sign : Lexeme → Bool) (signs : Lexeme → Option O) (made : O → SynExpr → T) (r : ℕ → Rule SynExpr) (p : ℕ → Reader SynExpr) (between : Lexeme → Bool) where
-  pub Exact-chain : Exact q n (suc n) r p between → Exact q n n (λ _. rule.one signs) (λ _. read.one signs) nothing → ((k : ℕ) → TakesSome (r k)) → ((t : Lexeme) (o : O) → signs t ≡ Some o → is_sign t ≡ true)
+module _ {q : Bool} {n : ℕ} {O T : Type 0} (is_sign : Lexeme → Bool) (signs : Lexeme → Option O) (made : O → SynExpr → T) (r : ℕ → Rule SynExpr)
+    (p : ℕ → Reader SynExpr) (between : Lexeme → Bool) where
+  pub Exact-chain : Exact q n (suc n) r p between → Exact q n n (λ _. rule.one signs) (λ _. read.one signs) nothing → ((k : ℕ) → TakesSome (r k))
+      → ((t : Lexeme) (o : O) → signs t ≡ Some o → is_sign t ≡ true)
       → ((t : Lexeme) → is_sign t ≡ true → between t ≡ false) → n ≤ suc n
       → Exact q n (suc n) (λ k. grammar.chain signs made (r k)) (λ m. reader.chain m is_sign signs made (p m)) (after_chain is_sign between)
   Exact-chain item sign some signed apart_ fewer =
@@ -361,11 +374,13 @@ module _ {q : Bool} {n : ℕ} {O T : Type 0} (is_sign : Lexeme → Bool) (signs 
       Exact-placed _ _ (after_chain is_sign between) (λ k. takes-then (r k) _ (some k))
       (Exact-after _ _ _ _ between (after_chain is_sign between) (some (suc n)) item
       (λ first. Exact-made (λ more. (first, more)) _ _ (after_chain is_sign between)
-      (Exact-many is_sign (linked_rule signs made r) _ between (after_chain is_sign between) one_more (λ k. takes-then _ _ (takes-one signs)) starts goes ends quits))
+      (Exact-many is_sign (linked_rule signs made r) _ between (after_chain is_sign between) one_more (λ k. takes-then _ _ (takes-one signs)) starts
+      goes ends quits))
       (λ k first b back rest h stops.
       let is : back ≡ h.front = h.is ∙ ap (λ ts. h.front ++ ts) h.second.0 ∙ append-nil h.front in
       subst (λ ts. Stops between (ts ++ rest)) (sym is)
-      (between_items is_sign (reader.linked signs made (p n)) (linked_rule signs made r k) between (after_chain is_sign between) (one_more.complete k) (starts k) goes ends quits h.front rest h.value h.first stops)))
+      (between_items is_sign (reader.linked signs made (p n)) (linked_rule signs made r k) between (after_chain is_sign between)
+      (one_more.complete k) (starts k) goes ends quits h.front rest h.value h.first stops)))
 
 -- ---- the levels
 
@@ -415,8 +430,10 @@ module _ (e : Rule SynExpr) where
 -- an operand, and behind it perhaps another part that begins with a sign
 bridge_maybe : {A : Type 0} (r : Rule A) (is_sign between : Lexeme → Bool) → StartsWith r is_sign → ((t : Lexeme) → is_sign t ≡ true → between t ≡ false)
     → (used rest : Left) (a : Option A) → rule.maybe r used a → Stops (λ t. is_sign t || between t) rest → Stops between (used ++ rest)
-bridge_maybe r is_sign between starts apart_ used rest a (inl h) stops = stops_apart is_sign between apart_ (used ++ rest) ((starts-then r _ is_sign starts).begins used rest a h)
-bridge_maybe r is_sign between starts apart_ used rest a (inr h) stops = subst (λ ts. Stops between (ts ++ rest)) (sym h.0) (stops_or is_sign between rest stops).1
+bridge_maybe r is_sign between starts apart_ used rest a (inl h) stops =
+    stops_apart is_sign between apart_ (used ++ rest) ((starts-then r _ is_sign starts).begins used rest a h)
+bridge_maybe r is_sign between starts apart_ used rest a (inr h) stops =
+    subst (λ ts. Stops between (ts ++ rest)) (sym h.0) (stops_or is_sign between rest stops).1
 
 factor_apart : (t : Lexeme) → is_factor_sign t ≡ true → open_sign t ≡ false
 factor_apart t e = opens t (apart times_over open_signs t refl e)
@@ -482,32 +499,42 @@ module _ {q : Bool} (n : ℕ) (fewer : n ≤ suc n) (inner : Exact q n n grammar
       (Exact-placed _ _ open_sign (λ k. takes-then _ _ (takes-one prefix_sign))
       (Exact-last _ _ _ _ open_sign exact-prefix_sign (λ way. Exact-made (grammar.prefixed way) _ _ open_sign exact-primary))))
       exact-primary
-      (λ k. starts-then _ _ is_prefix_sign (starts-placed _ is_prefix_sign (starts-then _ _ is_prefix_sign (starts-one prefix_sign is_prefix_sign prefix_sign_is))))
+      (λ k. starts-then _ _ is_prefix_sign (starts-placed _ is_prefix_sign
+      (starts-then _ _ is_prefix_sign (starts-one prefix_sign is_prefix_sign prefix_sign_is))))
       (λ k used rest a h stops. (avoids-primary (deep k) (codes "!" ∷ codes "-" ∷ []) refl).stops used rest a h)
 
   exact-product : Exact q n (suc n) (λ k. grammar.product (deep k)) (λ m. reader.product (reads m) m) after_product
   unfolding grammar.product reader.product reader.next_factor
   exact-product =
       Exact-made grammar.product_of _ _ after_product
-      (Exact-chain is_factor_sign factor_sign grammar.factor (λ k. grammar.unary (deep k)) (λ m. reader.unary (reads m)) open_sign exact-unary exact-factor_sign (λ k. takes-unary (deep k)) factor_sign_is factor_apart fewer)
+      (Exact-chain is_factor_sign factor_sign grammar.factor (λ k. grammar.unary (deep k)) (λ m. reader.unary (reads m)) open_sign exact-unary
+      exact-factor_sign (λ k. takes-unary (deep k)) factor_sign_is factor_apart fewer)
 
   exact-sum : Exact q n (suc n) (λ k. grammar.sum (deep k)) (λ m. reader.sum (reads m) m) after_sum
   unfolding grammar.sum reader.sum reader.next_term
   exact-sum =
       Exact-made grammar.sum_of _ _ after_sum
-      (Exact-chain is_term_sign term_sign grammar.term (λ k. grammar.product (deep k)) (λ m. reader.product (reads m) m) after_product exact-product exact-term_sign (λ k. takes-product (deep k)) term_sign_is term_apart fewer)
+      (Exact-chain is_term_sign term_sign grammar.term (λ k. grammar.product (deep k)) (λ m. reader.product (reads m) m) after_product exact-product
+      exact-term_sign (λ k. takes-product (deep k)) term_sign_is term_apart fewer)
 
-  exact-compared_with : Exact q n (suc n) (λ k. rule.◌>>=◌ (rule.one comparator) (λ way. rule.◌>>=◌ (grammar.sum (deep k)) (λ right. rule.pure (way, right)))) (λ m. reader.compared_with (reads m) m) after_sum
+  exact-compared_with :
+      Exact q n (suc n) (λ k. rule.◌>>=◌ (rule.one comparator) (λ way. rule.◌>>=◌ (grammar.sum (deep k)) (λ right. rule.pure (way, right))))
+      (λ m. reader.compared_with (reads m) m) after_sum
   unfolding reader.compared_with
   exact-compared_with = Exact-last _ _ _ _ after_sum exact-comparator (λ way. Exact-made (λ right. (way, right)) _ _ after_sum exact-sum)
 
-  starts-compared_with : (k : ℕ) → StartsWith {A = Cmp × SynExpr} (rule.◌>>=◌ (rule.one comparator) (λ way. rule.◌>>=◌ (grammar.sum (deep k)) (λ right. rule.pure (way, right)))) is_comparator
+  starts-compared_with : (k : ℕ)
+      → StartsWith {A = Cmp
+      × SynExpr} (rule.◌>>=◌ (rule.one comparator) (λ way. rule.◌>>=◌ (grammar.sum (deep k)) (λ right. rule.pure (way, right)))) is_comparator
   starts-compared_with k = starts-then _ _ is_comparator (starts-one comparator is_comparator comparator_is)
 
-  exact-other_side : Exact q n (suc n) (λ k. rule.maybe (rule.◌>>=◌ (rule.one comparator) (λ way. rule.◌>>=◌ (grammar.sum (deep k)) (λ right. rule.pure (way, right))))) (λ m. reader.other_side (reads m) m) after_comparison
+  exact-other_side :
+      Exact q n (suc n) (λ k. rule.maybe (rule.◌>>=◌ (rule.one comparator)
+      (λ way. rule.◌>>=◌ (grammar.sum (deep k)) (λ right. rule.pure (way, right))))) (λ m. reader.other_side (reads m) m) after_comparison
   unfolding reader.other_side
   exact-other_side =
-      Exact-maybe is_comparator _ _ after_comparison (Exact-narrower _ _ after_sum after_comparison exact-compared_with (λ ts e. (stops_or is_comparator after_sum ts e).1))
+      Exact-maybe is_comparator _ _ after_comparison
+      (Exact-narrower _ _ after_sum after_comparison exact-compared_with (λ ts e. (stops_or is_comparator after_sum ts e).1))
       starts-compared_with (λ ts e. (stops_or is_comparator after_sum ts e).0)
 
   exact-comparison : Exact q n (suc n) (λ k. grammar.comparison (deep k)) (λ m. reader.comparison (reads m) m) after_comparison
@@ -541,7 +568,12 @@ module _ {q : Bool} (n : ℕ) (fewer : n ≤ suc n) (inner : Exact q n n grammar
 Word-then : {A B : Type 0} (r : Rule A) (s : A → Rule B) → Word r → ((a : A) → Word (s a)) → Word (rule.◌>>=◌ r s)
 Word-then r s w v =
     let x = v w.value in
-    record { used = w.used ++ x.used; value = x.value; holds = record { front = w.used; back = x.used; value = w.value; is = refl; first = w.holds; second = x.holds } }
+    record {
+      used = w.used ++ x.used;
+      value = x.value;
+      holds =
+          record { front = w.used; back = x.used; value = w.value; is = refl; first = w.holds; second = x.holds };
+    }
 
 Word-placed : {A : Type 0} (r : Rule A) → Word r → Word (rule.placed r)
 Word-placed r w = record { used = w.used; value = (place_of w.used, w.value); holds = (w.holds, refl) }
@@ -612,7 +644,13 @@ unfolding reader.expression
 no_room = record {
   sound = record {
     ok = λ ts rest a e. cc;
-    stuck = λ ts rest why e. record { used = []; is = ap (λ x. x.1) (err_value e); holds = record { more = some_expression.used; value = some_expression.value; holds = some_expression.holds } };
+    stuck =
+        λ ts rest why e. record {
+          used = [];
+          is = ap (λ x. x.1) (err_value e);
+          holds =
+              record { more = some_expression.used; value = some_expression.value; holds = some_expression.holds };
+        };
     some = some_expression;
   };
   complete = λ k. record { reads = λ used rest a h stops. inr (record { rest = used ++ rest; is = refl }) };

@@ -27,7 +27,8 @@ not_true false e = refl
 pub apart : (texts others : List (List ℕ)) (t : Lexeme) → disjoint texts others ≡ true → some_symbol texts t ≡ true → some_symbol others t ≡ false
 apart [] others t d e = cc
 apart (text ∷ texts) others t d e = cases (symbol text t) refl e (apart texts others t (and_true _ _ d).1) where
-  cases : (b : Bool) → symbol text t ≡ b → b || some_symbol texts t ≡ true → (some_symbol texts t ≡ true → some_symbol others t ≡ false) → some_symbol others t ≡ false
+  cases : (b : Bool) → symbol text t ≡ b → b || some_symbol texts t ≡ true → (some_symbol texts t ≡ true → some_symbol others t ≡ false)
+      → some_symbol others t ≡ false
   cases true k f later = same_symbols text others t k ∙ not_true _ (and_true _ _ d).0
   cases false k f later = later f
 
@@ -40,6 +41,7 @@ pub next_is-none : (l : Left) → next_is (some_symbol []) l ≡ false
 next_is-none [] = refl
 next_is-none (t ∷ l) = refl
 
-pub next_is-some : (text : List ℕ) (texts : List (List ℕ)) (l : Left) → next_is (some_symbol (text ∷ texts)) l ≡ (next_is (symbol text) l || next_is (some_symbol texts) l)
+pub next_is-some : (text : List ℕ) (texts : List (List ℕ)) (l : Left)
+    → next_is (some_symbol (text ∷ texts)) l ≡ (next_is (symbol text) l || next_is (some_symbol texts) l)
 next_is-some text texts [] = refl
 next_is-some text texts (t ∷ l) = refl

@@ -5,7 +5,8 @@ use Rattle.std.specs.Prelude.{ℕ, List, [], ◌∷◌, ◌++◌, codes, decimal
 abbrev pub counted : List ℕ → ℕ → List ℕ
 counted name number = name ++ (32 ∷ (decimal number ++ 10 ∷ []))
 
--- how many rows there were, and how many late rows, matches and timeouts they came to
-abbrev pub summary_of : ℕ → ℕ → ℕ → ℕ → List ℕ
-summary_of rows late matches timeouts =
-    counted (codes "rows") rows ++ (counted (codes "late") late ++ (counted (codes "matches") matches ++ counted (codes "timeouts") timeouts))
+-- how many rows there were, how many late rows, matches and timeouts they came to, and the greatest number of events that were held after a tick
+abbrev pub summary_of : ℕ → ℕ → ℕ → ℕ → ℕ → List ℕ
+summary_of rows late matches timeouts greatest =
+    counted (codes "rows") rows
+    ++ (counted (codes "late") late ++ (counted (codes "matches") matches ++ (counted (codes "timeouts") timeouts ++ counted (codes "greatest held") greatest)))

@@ -140,9 +140,10 @@ fn draws_are_those_of_another_program(rt: HostRuntime) -> Result<(), Fail> {
 }
 
 #[test]
-fn a_summary_has_four_lines(rt: HostRuntime) -> Result<(), Fail> {
-    let text = summary(rt.alloc(), 100000, 0, 99998, u64::MAX)?;
-    let want = "rows 100000\nlate 0\nmatches 99998\ntimeouts 18446744073709551615\n";
+fn a_summary_has_five_lines(rt: HostRuntime) -> Result<(), Fail> {
+    let text = summary(rt.alloc(), 100000, 0, 99998, u64::MAX, 2)?;
+    let want =
+        "rows 100000\nlate 0\nmatches 99998\ntimeouts 18446744073709551615\ngreatest held 2\n";
     assert!(rt; text.as_slice() == want.as_bytes());
     Ok(())
 }

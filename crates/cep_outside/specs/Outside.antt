@@ -8,6 +8,10 @@ use Rattle.cep_outside.specs.declared.source.Take.TheVariants.{Got, End, Failed}
 abbrev pub Rose : ℕ → ℕ → Type 0
 Rose before now = min (before + 1) (2 ^ 64 - 1) ≤ now
 
+-- no fault was counted
+abbrev pub DidNotRise : ℕ → ℕ → Type 0
+DidNotRise before now = Rose before now → ⊥
+
 -- what a read does to the bytes left: it takes those that it gives, and the end comes only where none is left
 abbrev pub Takes : Option (List ℕ) → Option (List ℕ) → Take → List ℕ → Type 0
 Takes before now (Got count) room = (0 < count) × (count ≤ length room) × Consumes before now (take count room)

@@ -8,6 +8,7 @@ mod sink;
 mod source;
 mod standard;
 mod stored;
+mod sure;
 mod writes;
 
 pub use files::{Files, FilesFault};
@@ -17,4 +18,5 @@ pub use sink::{Failed, Sink};
 pub use source::{Source, Take};
 pub use standard::{DiskFiles, StdSink, StdSource};
 pub use stored::MemoryFiles;
+pub use sure::{SureFiles, SureSource};
 pub use writes::write_all;

@@ -84,7 +84,7 @@ impl Source for MemorySource {
 }
 
 // Writes these bytes over the front of the room.
-fn fill_front(room: &mut [u8], bytes: &[u8])
+pub(crate) fn fill_front(room: &mut [u8], bytes: &[u8])
     requires { length bytes.now ≤ length room.old }
     ensures { take (length bytes.now) room.new ≡ bytes.now }
 {

@@ -46,14 +46,17 @@ slice_range-append events more from to h = placed (cases_order from (length even
   placed (inr (inr lt)) = outside lt
 
 module _ (plan : Plan) (events more : List Event) (list : List Entry) (among : AreAmong events list) where
-  pub gap_holds-append : (stage position : ℕ) → position ≤ length events → gap_holds plan (events ++ more) list stage position ≡ gap_holds plan events list stage position
+  pub gap_holds-append : (stage position : ℕ) → position ≤ length events
+      → gap_holds plan (events ++ more) list stage position ≡ gap_holds plan events list stage position
   unfolding gap_holds
   gap_holds-append stage position h = after (last_entry list) where
     after : (last : Option Entry)
         → option_map_or (λ l. gap_spares plan (taken_of (events ++ more) list) l.stage stage (gap_between (events ++ more) l.position position)) last true
         ≡ option_map_or (λ l. gap_spares plan (taken_of events list) l.stage stage (gap_between events l.position position)) last true
     after None = refl
-    after (Some last) = λ i. gap_spares plan (taken_of-append events more list among i) last.stage stage (slice_range-append events more (last.position + 1) position h i)
+    after (Some last) =
+        λ i. gap_spares plan (taken_of-append events more list among i) last.stage stage
+        (slice_range-append events more (last.position + 1) position h i)
 
   pub comes_later-append : (position : ℕ) → position < length events → comes_later (events ++ more) list position ≡ comes_later events list position
   comes_later-append position h =
@@ -65,29 +68,35 @@ module _ (plan : Plan) (events more : List Event) (list : List Entry) (among : A
   pub extends-append : (next : Entry) → next.position < length events → extends plan (events ++ more) list next ≡ extends plan events list next
   extends-append next h =
       λ i. may_follow plan (stages_of list) next.stage && comes_later-append next.position h i
-      && fits plan (taken_of-append events more list among i) next.stage (event_at-append events more next.position h i) next.position && gap_holds-append next.stage next.position (omega (arith, h)) i
+      && fits plan (taken_of-append events more list among i) next.stage (event_at-append events more next.position h i) next.position
+      && gap_holds-append next.stage next.position (omega (arith, h)) i
 
-pub AreAmong-push : (events : List Event) (list : List Entry) (next : Entry) → AreAmong events list → next.position < length events → AreAmong events (list ++ next ∷ [])
+pub AreAmong-push : (events : List Event) (list : List Entry) (next : Entry) → AreAmong events list → next.position < length events
+    → AreAmong events (list ++ next ∷ [])
 AreAmong-push events [] next h k = (k, tt)
 AreAmong-push events (e ∷ list) next h k = (h.0, AreAmong-push events list next h.1 k)
 
 -- entries that come one after another
-pub extends_all-later : (plan : Plan) (events more : List Event) (list next : List Entry) → AreAmong events list → AreAmong events next → extends_all plan (events ++ more) list next ≡ extends_all plan events list next
+pub extends_all-later : (plan : Plan) (events more : List Event) (list next : List Entry) → AreAmong events list → AreAmong events next
+    → extends_all plan (events ++ more) list next ≡ extends_all plan events list next
 extends_all-later plan events more list [] h k = refl
 extends_all-later plan events more list (e ∷ next) h k =
     λ i. extends-append plan events more list h e k.0 i && extends_all-later plan events more (list ++ e ∷ []) next (AreAmong-push events list e h k.0) k.1 i
 
 -- a list that may grow still may, and no other may
-pub may_grow-append : (plan : Plan) (events more : List Event) (list : List Entry) → AreAmong events list → may_grow plan (events ++ more) list ≡ may_grow plan events list
+pub may_grow-append : (plan : Plan) (events more : List Event) (list : List Entry) → AreAmong events list
+    → may_grow plan (events ++ more) list ≡ may_grow plan events list
 unfolding may_grow
 may_grow-append plan events more list h = λ i. extends_all-later plan events more [] list tt h i && are_in_time plan (taken_of-append events more list h i)
 
 -- a partial match stays one, and nothing else becomes one
-pub is_partial-append : (plan : Plan) (events more : List Event) (list : List Entry) → AreAmong events list → is_partial plan (events ++ more) list ≡ is_partial plan events list
+pub is_partial-append : (plan : Plan) (events more : List Event) (list : List Entry) → AreAmong events list
+    → is_partial plan (events ++ more) list ≡ is_partial plan events list
 unfolding is_partial
 is_partial-append plan events more list h = ap (λ b. has_entries list && b) (may_grow-append plan events more list h)
 
 -- the same of matches
-pub is_match-append : (plan : Plan) (events more : List Event) (list : List Entry) → AreAmong events list → is_match plan (events ++ more) list ≡ is_match plan events list
+pub is_match-append : (plan : Plan) (events more : List Event) (list : List Entry) → AreAmong events list
+    → is_match plan (events ++ more) list ≡ is_match plan events list
 unfolding is_match
 is_match-append plan events more list h = ap (λ b. b && is_full plan (stages_of list)) (is_partial-append plan events more list h)

@@ -33,7 +33,8 @@ module _ {X : Type 0} (P : X → Type 0) where
 -- ---- sorted lists, one after another
 
 module _ {X : Type 0} (c : X → X → Ordering) where
-  pub IsStrictlySortedBy-append : (xs ys : List X) → IsStrictlySortedBy c xs → IsStrictlySortedBy c ys → Each (λ x. Each (λ y. c x y ≡ Less) ys) xs → IsStrictlySortedBy c (xs ++ ys)
+  pub IsStrictlySortedBy-append : (xs ys : List X) → IsStrictlySortedBy c xs → IsStrictlySortedBy c ys → Each (λ x. Each (λ y. c x y ≡ Less) ys) xs
+      → IsStrictlySortedBy c (xs ++ ys)
   unfolding IsStrictlySortedBy
   IsStrictlySortedBy-append [] ys s t b = t
   IsStrictlySortedBy-append (x ∷ xs) ys s t b = (Each-append (λ y. c x y ≡ Less) xs ys s.0 b.0, IsStrictlySortedBy-append xs ys s.1 t b.1)
@@ -59,7 +60,8 @@ list_cmp-same_first : (e : Entry) (a b : List Entry) → list_cmp (e ∷ a) (e �
 list_cmp-same_first e a b = ap (λ o. ordering_then o (list_cmp a b)) (tied_itself entry_cmp-total e)
 
 list_cmp-by_position : (e f : Entry) (a b : List Entry) → e.position < f.position → list_cmp (e ∷ a) (f ∷ b) ≡ Less
-list_cmp-by_position e f a b h = ap (λ o. ordering_then (ordering_then o (nat_cmp e.stage f.stage)) (list_cmp a b)) (sym (nat_cmp_is e.position f.position Less h))
+list_cmp-by_position e f a b h =
+    ap (λ o. ordering_then (ordering_then o (nat_cmp e.stage f.stage)) (list_cmp a b)) (sym (nat_cmp_is e.position f.position Less h))
 
 list_cmp-by_stage : (e f : Entry) (a b : List Entry) → e.position ≡ f.position → e.stage < f.stage → list_cmp (e ∷ a) (f ∷ b) ≡ Less
 list_cmp-by_stage e f a b p h =
@@ -108,11 +110,13 @@ rising_lists-start stages from (suc count) =
 -- ---- the lists stand in order
 
 -- each list of one kind comes before each of the other
-crossed : (P Q : List Entry → Type 0) → ((a b : List Entry) → P a → Q b → list_cmp a b ≡ Less) → (xs ys : List (List Entry)) → Each P xs → Each Q ys → Each (λ a. Each (λ b. list_cmp a b ≡ Less) ys) xs
+crossed : (P Q : List Entry → Type 0) → ((a b : List Entry) → P a → Q b → list_cmp a b ≡ Less) → (xs ys : List (List Entry)) → Each P xs → Each Q ys
+    → Each (λ a. Each (λ b. list_cmp a b ≡ Less) ys) xs
 crossed P Q less [] ys h k = tt
 crossed P Q less (a ∷ xs) ys h k = (Each-weaker Q (λ b. list_cmp a b ≡ Less) (λ b q. less a b h.0 q) ys k, crossed P Q less xs ys h.1 k)
 
-begun_with-sorted : (e : Entry) (from : ℕ) (later : List (List Entry)) → Each (StartsFrom from) later → IsStrictlySortedBy list_cmp later → IsStrictlySortedBy list_cmp (begun_with e later)
+begun_with-sorted : (e : Entry) (from : ℕ) (later : List (List Entry)) → Each (StartsFrom from) later → IsStrictlySortedBy list_cmp later
+    → IsStrictlySortedBy list_cmp (begun_with e later)
 unfolding IsStrictlySortedBy
 begun_with-sorted e from later h s = (alone later h, extended later s) where
   alone : (ls : List (List Entry)) → Each (StartsFrom from) ls → Each (λ b. list_cmp (e ∷ []) b ≡ Less) (map (λ list. e ∷ list) ls)
@@ -139,13 +143,16 @@ begun_with-at e later = ((refl, refl), Each-map (AtStage e.position e.stage) (λ
   all [] = tt
   all (l ∷ ls) = ((refl, refl), all ls)
 
-block-sorted : (from : ℕ) (later : List (List Entry)) → Each (StartsFrom (from + 1)) later → IsStrictlySortedBy list_cmp later → (low n : ℕ) → IsStrictlySortedBy list_cmp (block from later low n)
+block-sorted : (from : ℕ) (later : List (List Entry)) → Each (StartsFrom (from + 1)) later → IsStrictlySortedBy list_cmp later → (low n : ℕ)
+    → IsStrictlySortedBy list_cmp (block from later low n)
 unfolding IsStrictlySortedBy
 block-sorted from later h s low zero = tt
 block-sorted from later h s low (suc n) =
     let e : Entry = record { stage = low; position = from } in
-    IsStrictlySortedBy-append list_cmp (begun_with e later) (block from later (low + 1) n) (begun_with-sorted e (from + 1) later h s) (block-sorted from later h s (low + 1) n)
-    (crossed (AtStage from low) (StartsAt from (low + 1)) (stage_first from low) (begun_with e later) (block from later (low + 1) n) (begun_with-at e later) (block-starts from later (low + 1) n))
+    IsStrictlySortedBy-append list_cmp (begun_with e later) (block from later (low + 1) n) (begun_with-sorted e (from + 1) later h s)
+    (block-sorted from later h s (low + 1) n)
+    (crossed (AtStage from low) (StartsAt from (low + 1)) (stage_first from low) (begun_with e later) (block from later (low + 1) n)
+    (begun_with-at e later) (block-starts from later (low + 1) n))
 
 position_first : (from : ℕ) (a b : List Entry) → StartsAt from 0 a → StartsFrom (from + 1) b → list_cmp a b ≡ Less
 position_first from [] b h k = absurd h
@@ -178,17 +185,22 @@ rising_sooner : (stages from to : ℕ) (list : List Entry) → IsRisingList stag
 rising_sooner stages from to [] h = h
 rising_sooner stages from to (e ∷ later) h = (h.0, omega (arith, h.1), h.2, h.3)
 
-rising_behind : (stages from to : ℕ) (e : Entry) → e.stage < stages → e.position ≡ from → from < to → (list : List Entry) → IsRisingList stages (from + 1) to list → IsRisingList stages from to (e ∷ list)
+rising_behind : (stages from to : ℕ) (e : Entry) → e.stage < stages → e.position ≡ from → from < to → (list : List Entry)
+    → IsRisingList stages (from + 1) to list → IsRisingList stages from to (e ∷ list)
 rising_behind stages from to e s p lt [] h = absurd h
 rising_behind stages from to e s p lt (f ∷ later) h = (s, omega (arith, p), omega (arith, p, lt), (h.0, omega (arith, h.1, p), h.2, h.3))
 
-block-rising : (stages from to : ℕ) → from < to → (later : List (List Entry)) → Each (IsRisingList stages (from + 1) to) later → (low n : ℕ) → low + n ≤ stages → Each (IsRisingList stages from to) (block from later low n)
+block-rising : (stages from to : ℕ) → from < to → (later : List (List Entry)) → Each (IsRisingList stages (from + 1) to) later → (low n : ℕ)
+    → low + n ≤ stages → Each (IsRisingList stages from to) (block from later low n)
 block-rising stages from to lt later h low zero le = tt
 block-rising stages from to lt later h low (suc n) le =
     let e : Entry = record { stage = low; position = from } in
     let s : low < stages = omega (arith, le) in
-    Each-append (IsRisingList stages from to) (begun_with e later) (block from later (low + 1) n)
-    ((s, omega arith, lt, tt), Each-map (IsRisingList stages from to) (λ list. e ∷ list) later (Each-weaker _ _ (rising_behind stages from to e s refl lt) later h))
+    Each-append (IsRisingList stages from to) (begun_with e later) (block from later (low + 1) n) (
+      (s, omega arith, lt, tt),
+      Each-map (IsRisingList stages from to) (λ list. e ∷ list) later
+          (Each-weaker _ _ (rising_behind stages from to e s refl lt) later h),
+    )
     (block-rising stages from to lt later h (low + 1) n (omega (arith, le)))
 
 -- every list there is rising
@@ -215,36 +227,47 @@ Contains-begun e list later h = Contains-later (e ∷ []) (e ∷ list) (map (λ 
   mapped (l ∷ ls) (zero, lt, is) = (0, omega arith, ap (λ l. e ∷ l) is)
   mapped (l ∷ ls) (suc k, lt, is) = Contains-later (e ∷ l) (e ∷ list) (map (λ l. e ∷ l) ls) (mapped ls (k, omega (arith, lt), is))
 
-Contains-block : (from : ℕ) (later : List (List Entry)) (list : List Entry) (stage low n : ℕ) → low ≤ stage → stage < low + n → Contains (begun_with (record { stage = stage; position = from }) later) list → Contains (block from later low n) list
+Contains-block : (from : ℕ) (later : List (List Entry)) (list : List Entry) (stage low n : ℕ) → low ≤ stage → stage < low + n
+    → Contains (begun_with (record { stage = stage; position = from }) later) list → Contains (block from later low n) list
 Contains-block from later list stage low zero le lt h = absurd (omega (arith, le, lt))
-Contains-block from later list stage low (suc n) le lt h = chosen (λ above. Contains-block from later list stage (low + 1) n (omega (arith, above)) (omega (arith, lt)) h) (eq-or-lt_of_le le) where
-  chosen : (low < stage → Contains (block from later (low + 1) n) list) → (low ≡ stage) ⊎ (low < stage) → Contains (block from later low (suc n)) list
-  chosen next (inl is) = Contains-append_left (begun_with (record { stage = low; position = from }) later) (block from later (low + 1) n) list (subst (λ s. Contains (begun_with (record { stage = s; position = from }) later) list) (sym is) h)
-  chosen next (inr above) = Contains-append_right (begun_with (record { stage = low; position = from }) later) (block from later (low + 1) n) list (next above)
+Contains-block from later list stage low (suc n) le lt h =
+    chosen (λ above. Contains-block from later list stage (low + 1) n (omega (arith, above)) (omega (arith, lt)) h) (eq-or-lt_of_le le) where
+      chosen : (low < stage → Contains (block from later (low + 1) n) list) → (low ≡ stage) ⊎ (low < stage) → Contains (block from later low (suc n)) list
+      chosen next (inl is) =
+          Contains-append_left (begun_with (record { stage = low; position = from }) later) (block from later (low + 1) n) list
+          (subst (λ s. Contains (begun_with (record { stage = s; position = from }) later) list) (sym is) h)
+      chosen next (inr above) = Contains-append_right (begun_with (record { stage = low; position = from }) later) (block from later (low + 1) n) list (next above)
 
 Contains-one : (e : Entry) (later : List (List Entry)) → Contains (begun_with e later) (e ∷ [])
 Contains-one e later = Contains-here (e ∷ []) (map (λ l. e ∷ l) later)
 
 -- a list that begins here, where those behind it stand among the later ones
 Contains-beginning : (stages from to : ℕ) (later : List (List Entry)) → ((list : List Entry) → IsRisingList stages (from + 1) to list → Contains later list)
-    → (f : Entry) (list : List Entry) → from ≡ f.position → IsRising stages (f.position + 1) to list → Contains (begun_with (record { stage = f.stage; position = from }) later) (record { stage = f.stage; position = from } ∷ list)
+    → (f : Entry) (list : List Entry) → from ≡ f.position → IsRising stages (f.position + 1) to list
+    → Contains (begun_with (record { stage = f.stage; position = from }) later) (record { stage = f.stage; position = from } ∷ list)
 Contains-beginning stages from to later holds f [] is r = Contains-one (record { stage = f.stage; position = from }) later
 Contains-beginning stages from to later holds f (g ∷ list) is r =
-    Contains-begun (record { stage = f.stage; position = from }) (g ∷ list) later (holds (g ∷ list) (subst (λ p. IsRising stages (p + 1) to (g ∷ list)) (sym is) r))
+    Contains-begun (record { stage = f.stage; position = from }) (g ∷ list) later
+    (holds (g ∷ list) (subst (λ p. IsRising stages (p + 1) to (g ∷ list)) (sym is) r))
 
 Contains-placed : (stages from to : ℕ) (later : List (List Entry)) → ((list : List Entry) → IsRisingList stages (from + 1) to list → Contains later list)
-    → (f : Entry) (list : List Entry) → IsRising stages from to (f ∷ list) → (from ≡ f.position) ⊎ (from < f.position) → Contains (block from later 0 stages ++ later) (f ∷ list)
+    → (f : Entry) (list : List Entry) → IsRising stages from to (f ∷ list) → (from ≡ f.position) ⊎ (from < f.position)
+    → Contains (block from later 0 stages ++ later) (f ∷ list)
 Contains-placed stages from to later holds f list h (inl is) =
     Contains-append_left (block from later 0 stages) later (f ∷ list)
     (Contains-block from later (f ∷ list) f.stage 0 stages (omega arith) (omega (arith, h.0))
-    (subst (λ p. Contains (begun_with (record { stage = f.stage; position = from }) later) (record { stage = f.stage; position = p } ∷ list)) is (Contains-beginning stages from to later holds f list is h.3)))
-Contains-placed stages from to later holds f list h (inr above) = Contains-append_right (block from later 0 stages) later (f ∷ list) (holds (f ∷ list) (h.0, omega (arith, above), h.2, h.3))
+    (subst (λ p. Contains (begun_with (record { stage = f.stage; position = from }) later) (record { stage = f.stage; position = p } ∷ list)) is
+    (Contains-beginning stages from to later holds f list is h.3)))
+Contains-placed stages from to later holds f list h (inr above) =
+    Contains-append_right (block from later 0 stages) later (f ∷ list) (holds (f ∷ list) (h.0, omega (arith, above), h.2, h.3))
 
 -- every rising list stands there
-pub Contains-rising_lists : (stages from count to : ℕ) → from + count ≡ to → (list : List Entry) → IsRisingList stages from to list → Contains (rising_lists stages from count) list
+pub Contains-rising_lists : (stages from count to : ℕ) → from + count ≡ to → (list : List Entry) → IsRisingList stages from to list
+    → Contains (rising_lists stages from count) list
 unfolding rising_lists
 Contains-rising_lists stages from zero to e [] h = absurd h
 Contains-rising_lists stages from zero to e (f ∷ list) h = absurd (omega (arith, e, h.1, h.2))
 Contains-rising_lists stages from (suc count) to e [] h = absurd h
 Contains-rising_lists stages from (suc count) to e (f ∷ list) h =
-    Contains-placed stages from to (rising_lists stages (from + 1) count) (Contains-rising_lists stages (from + 1) count to (omega (arith, e))) f list h (eq-or-lt_of_le h.1)
+    Contains-placed stages from to (rising_lists stages (from + 1) count) (Contains-rising_lists stages (from + 1) count to (omega (arith, e))) f
+    list h (eq-or-lt_of_le h.1)

@@ -13,6 +13,8 @@ use Rattle.cep_plan.specs.Living.{living, stand, reach}
 
 unfoldable pub computing : Unit {0}
 unfolding
-    denote.Hole.Carrier.hidden shape-the_row-Expr-0 hidden-the_row-Expr-0 shape-the_row-Expr-1 hidden-the_row-Expr-1 shape-the_row-Term-2 hidden-the_row-Term-2 shape-the_row-Factor-3 hidden-the_row-Factor-3
-    condition_holds may_follow is_full is_candidate satisfies fits gap_holds may_grow is_partial is_match waits is_live rising_lists released ticks_of ticks_of_end history items_at kills kept living stand reach
+    denote.Hole.Carrier.hidden shape-the_row-Expr-0 hidden-the_row-Expr-0 shape-the_row-Expr-1 hidden-the_row-Expr-1 shape-the_row-Term-2
+    hidden-the_row-Term-2 shape-the_row-Factor-3 hidden-the_row-Factor-3
+    condition_holds may_follow is_full is_candidate satisfies fits gap_holds may_grow is_partial is_match waits is_live rising_lists released
+    ticks_of ticks_of_end history items_at kills kept living stand reach
 computing = tt

@@ -36,7 +36,8 @@ may_follow_last plan so_far stage None = all_optional plan 0 stage
 may_follow_last plan so_far stage (Some last) =
     if stage == last then has_room plan so_far stage else (nat_lt last stage && has_enough plan so_far last && all_optional plan (last + 1) stage)
 
--- The stage may follow the stages so far. Either it is the last of them, and has room for one more event. Or it is a later one, the last one has enough events, and all stages between are optional.
+-- The stage may follow the stages so far. Either it is the last of them, and has room for one more event. Or it is a later one, the last one has
+-- enough events, and all stages between are optional.
 -- Where there is none so far, a stage may follow where all stages before it are optional.
 unfoldable pub may_follow : Plan → List ℕ → ℕ → Bool
 may_follow plan so_far stage = nat_lt stage (length plan.stages) && may_follow_last plan so_far stage (last_or None so_far)

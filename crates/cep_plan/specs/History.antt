@@ -1,4 +1,5 @@
--- The items of ticks: first the partial matches that time out, then the matches that the event completes. Timed-out partial matches are as in the FlinkCEP chapter of the Flink manual; the exact bound and the order are this project's own.
+-- The items of ticks: first the partial matches that time out, then the matches that the event completes. Timed-out partial matches are as in the
+-- FlinkCEP chapter of the Flink manual; the exact bound and the order are this project's own.
 use Rattle.std.specs.Prelude.{ℕ, ◌+◌, Bool, false, not, ◌&&◌, ◌==◌, List, [], ◌∷◌, ◌++◌, length, map, filter, Option}
 use Rattle.std.specs.Option.{option_map_or}
 use Rattle.cep_event.specs.declared.event.Event.{Event}
@@ -20,7 +21,8 @@ lists_within plan count = rising_lists (length plan.stages) 0 count
 -- The live lists that aren't full and whose time limit is reached now and wasn't before. A list that is itself a match isn't told as a timeout.
 abbrev pub timeouts_at : Plan → List Event → Option Moment → Moment → List (List Entry)
 timeouts_at plan events before now =
-    filter (λ list. is_due (limit_of plan (taken_of events list)) before now && is_live plan events list && not (is_full plan (stages_of list))) (lists_within plan (length events))
+    filter (λ list. is_due (limit_of plan (taken_of events list)) before now && is_live plan events list && not (is_full plan (stages_of list)))
+    (lists_within plan (length events))
 
 -- the list's last position is this one
 abbrev pub ends_at : ℕ → List Entry → Bool
@@ -28,7 +30,8 @@ ends_at position list = option_map_or (λ last. last.position == position) (last
 
 -- the matches whose last event is this one, which comes after the others
 abbrev pub matches_at : Plan → List Event → Event → List (List Entry)
-matches_at plan events event = filter (λ list. ends_at (length events) list && is_match plan (events ++ event ∷ []) list) (lists_within plan (length events + 1))
+matches_at plan events event =
+    filter (λ list. ends_at (length events) list && is_match plan (events ++ event ∷ []) list) (lists_within plan (length events + 1))
 
 -- the items of a tick, from the events before it and the time of the tick before it
 abbrev pub items_from : Plan → List Event → Option Moment → Tick → List Item

@@ -1,4 +1,5 @@
--- The time limit of a pattern (`within`), as in the FlinkCEP chapter of the Flink manual. That the bound is strict, and the moment at which it is reached, is this project's own. Times are milliseconds, and their sums are whole numbers that don't wrap.
+-- The time limit of a pattern (`within`), as in the FlinkCEP chapter of the Flink manual. That the bound is strict, and the moment at which it is
+-- reached, is this project's own. Times are milliseconds, and their sums are whole numbers that don't wrap.
 use Rattle.std.specs.Prelude.{ℤ, pos, ◌+ℤ◌, Bool, true, false, not, ◌&&◌, List, [], ◌∷◌, Option, None, option_map}
 use Rattle.std.specs.List.{list_all}
 use Rattle.std.specs.Option.{option_map_or}

@@ -26,7 +26,8 @@ abbrev pub extends_all : Plan → List Event → List Entry → List Entry → B
 extends_all plan events list [] = true
 extends_all plan events list (next ∷ later) = extends plan events list next && extends_all plan events (list ++ next ∷ []) later
 
--- The list may grow: each entry may come next after those before it, and all events are below the time limit that the first one sets. So it is with the empty list and with the partial matches.
+-- The list may grow: each entry may come next after those before it, and all events are below the time limit that the first one sets. So it is with
+-- the empty list and with the partial matches.
 unfoldable pub may_grow : Plan → List Event → List Entry → Bool
 may_grow plan events list = extends_all plan events [] list && are_in_time plan (taken_of events list)
 

@@ -35,7 +35,8 @@ module _ {X : Type 0} (part : X → Text × Text) where
 
   -- a turn of a loop over the parts: its sign is added, and then its text
   pub chained-more : (xs : List X) (i : ℕ) (x : X) (first : Bool) (old out behind_sign new : Text) → i < length xs → x ≡ get_or xs i x → first ≡ (i == 0)
-      → behind_sign ≡ out ++ cond first [] (part x).0 → new ≡ behind_sign ++ (part x).1 → out ≡ old ++ chained (map part (take i xs)) → new ≡ old ++ chained (map part (take (i + 1) xs))
+      → behind_sign ≡ out ++ cond first [] (part x).0 → new ≡ behind_sign ++ (part x).1 → out ≡ old ++ chained (map part (take i xs))
+      → new ≡ old ++ chained (map part (take (i + 1) xs))
   chained-more xs i x first old out behind_sign new lt is so add_sign add_text so_far =
       let parts = map part (take i xs) in
       let sign = (part x).0 in

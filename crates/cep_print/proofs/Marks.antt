@@ -84,7 +84,9 @@ digits_more n ds le h =
     let last = 48 + n % 10 in
     let small : n % 10 < 10 = omega arith in
     let value = h.1 in (
-      list_all-append is_ascii_digit ds (last ∷ []) ∙ and_both (list_all is_ascii_digit ds) (is_ascii_digit last && true) h.0 (and_both (is_ascii_digit last) true (one_digit (n % 10) small) refl),
+      list_all-append is_ascii_digit ds (last ∷ [])
+          ∙ and_both (list_all is_ascii_digit ds) (is_ascii_digit last && true) h.0
+          (and_both (is_ascii_digit last) true (one_digit (n % 10) small) refl),
       fold-push (λ m b. 10 * m + (b - 48)) 0 ds last ∙ total (value_of ds) value,
       omega (arith, length-append ds (last ∷ [])),
     ) where
@@ -110,7 +112,8 @@ no_letter b e = grind (arith, nat_tests)
 at_most : (n : ℕ) → n ≤ GREATEST_NUMBER → nat_lt GREATEST_NUMBER n ≡ false
 at_most n le = grind (arith, nat_tests)
 
-number_piece : (z rest : Text) → list_all is_ascii_digit z ≡ true → 0 < length z → value_of z ≤ GREATEST_NUMBER → is_ascii_digit (front rest) ≡ false → first_piece (z ++ rest) ≡ piece.Token kind.Number (length z)
+number_piece : (z rest : Text) → list_all is_ascii_digit z ≡ true → 0 < length z → value_of z ≤ GREATEST_NUMBER → is_ascii_digit (front rest) ≡ false
+    → first_piece (z ++ rest) ≡ piece.Token kind.Number (length z)
 unfolding first_piece number
 number_piece [] rest e some le f = absurd (omega arith)
 number_piece (b ∷ z) rest e some le f =
@@ -122,7 +125,8 @@ number_piece (b ∷ z) rest e some le f =
     ∙ cond_false (b == 47 && slice_index (z ++ rest) 0 == 47) _ _ (λ i. no i && slice_index (z ++ rest) 0 == 47)
     ∙ cond_false (begins_word b) _ _ (no_letter b d)
     ∙ cond_true (is_ascii_digit b) _ _ d
-    ∙ cond_false (nat_lt GREATEST_NUMBER (value_of (take (prefix_len is_ascii_digit (b ∷ (z ++ rest))) (b ∷ (z ++ rest))))) _ _ (ap (λ x. nat_lt GREATEST_NUMBER (value_of x)) front_is ∙ at_most (value_of (b ∷ z)) le)
+    ∙ cond_false (nat_lt GREATEST_NUMBER (value_of (take (prefix_len is_ascii_digit (b ∷ (z ++ rest))) (b ∷ (z ++ rest))))) _ _
+    (ap (λ x. nat_lt GREATEST_NUMBER (value_of x)) front_is ∙ at_most (value_of (b ∷ z)) le)
     ∙ ap (piece.Token kind.Number) len
 
 pub value_of-decimal : (n : ℕ) → n ≤ GREATEST_NUMBER → value_of (decimal n) ≡ n
@@ -152,7 +156,9 @@ or_no false b e = (refl, e)
 -- one byte more before the rest of a literal
 module _ (b : ℕ) (esc rest : Text) (later : (n : ℕ) → literal_from false n ((esc ++ 34 ∷ []) ++ rest) ≡ piece.Token kind.Literal (n + length esc + 1)) where
   abbrev Goes : ℕ → Bool → Type 0
-  Goes len c = literal_from false len (((cond c (92 ∷ b ∷ []) (b ∷ []) ++ esc) ++ 34 ∷ []) ++ rest) ≡ piece.Token kind.Literal (len + length (cond c (92 ∷ b ∷ []) (b ∷ []) ++ esc) + 1)
+  Goes len c =
+      literal_from false len (((cond c (92 ∷ b ∷ []) (b ∷ []) ++ esc) ++ 34 ∷ []) ++ rest)
+      ≡ piece.Token kind.Literal (len + length (cond c (92 ∷ b ∷ []) (b ∷ []) ++ esc) + 1)
 
   goes : (len : ℕ) (c : Bool) → (b == 34 || b == 92) ≡ c → Goes len c
   goes len true e =

@@ -24,7 +24,8 @@ Shown r x z = Printed r unplaced (unplaced x) hard z
 -- ---- one operand alone
 
 module _ (operand : Rule SynExpr) (x : SynExpr) (z : Text) where
-  pub chain_one : {O T : Type 0} (signs : Lexeme → Option O) (made : O → SynExpr → T) (of : ℕ × (SynExpr × List T) → SynExpr) → ((place : ℕ) (e : SynExpr) → of (place, (e, [])) ≡ e)
+  pub chain_one : {O T : Type 0} (signs : Lexeme → Option O) (made : O → SynExpr → T) (of : ℕ × (SynExpr × List T) → SynExpr)
+      → ((place : ℕ) (e : SynExpr) → of (place, (e, [])) ≡ e)
       → Shown operand x z → Shown (rule.◌>>=◌ (grammar.chain signs made operand) (λ found. rule.pure (of found))) x z
   chain_one {O} {T} signs made of law (marks, p) = (
     marks,
@@ -40,7 +41,18 @@ module _ (operand : Rule SynExpr) (x : SynExpr) (z : Text) where
               back = [];
               value = (place_of used, (a.0, []));
               is = sym (append-nil used);
-              first = (record { front = used; back = []; value = a.0; is = sym (append-nil used); first = a.1; second = record { front = []; back = []; value = []; is = refl; first = refl; second = (refl, refl) } }, refl);
+              first = (
+                record {
+                  front = used;
+                  back = [];
+                  value = a.0;
+                  is = sym (append-nil used);
+                  first = a.1;
+                  second =
+                      record { front = []; back = []; value = []; is = refl; first = refl; second = (refl, refl) };
+                },
+                refl,
+              );
               second = (refl, refl);
             },
             ap unplaced (law (place_of used) a.0) ∙ a.2,
@@ -49,7 +61,9 @@ module _ (operand : Rule SynExpr) (x : SynExpr) (z : Text) where
   )
 
   pub comparison_one : {C : Type 0} (other : Rule C) (of : ℕ × (SynExpr × Option C) → SynExpr) → ((place : ℕ) (e : SynExpr) → of (place, (e, None)) ≡ e)
-      → Shown operand x z → Shown (rule.◌>>=◌ (rule.placed (rule.◌>>=◌ operand (λ left. rule.◌>>=◌ (rule.maybe other) (λ more. rule.pure (left, more))))) (λ found. rule.pure (of found))) x z
+      → Shown operand x z
+      → Shown (rule.◌>>=◌ (rule.placed (rule.◌>>=◌ operand (λ left. rule.◌>>=◌ (rule.maybe other) (λ more. rule.pure (left, more)))))
+      (λ found. rule.pure (of found))) x z
   comparison_one {C} other of law (marks, p) = (
     marks,
     record {
@@ -64,7 +78,18 @@ module _ (operand : Rule SynExpr) (x : SynExpr) (z : Text) where
               back = [];
               value = (place_of used, (a.0, None));
               is = sym (append-nil used);
-              first = (record { front = used; back = []; value = a.0; is = sym (append-nil used); first = a.1; second = record { front = []; back = []; value = None; is = refl; first = inr (refl, refl); second = (refl, refl) } }, refl);
+              first = (
+                record {
+                  front = used;
+                  back = [];
+                  value = a.0;
+                  is = sym (append-nil used);
+                  first = a.1;
+                  second =
+                      record { front = []; back = []; value = None; is = refl; first = inr (refl, refl); second = (refl, refl) };
+                },
+                refl,
+              );
               second = (refl, refl);
             },
             ap unplaced (law (place_of used) a.0) ∙ a.2,
@@ -116,13 +141,16 @@ module _ (e : Rule SynExpr) (x : SynExpr) (z : Text) where
   tiers-all p = record { any = to_any p; all = λ h. p; comparison = λ h. cc; sum = λ h. cc; product = λ h. cc; unary = λ h. cc; primary = λ h. cc }
 
   pub tiers-comparison : Shown (grammar.comparison e) x z → Tiers 3
-  tiers-comparison p = let a = to_all p in record { any = to_any a; all = λ h. a; comparison = λ h. p; sum = λ h. cc; product = λ h. cc; unary = λ h. cc; primary = λ h. cc }
+  tiers-comparison p = let a = to_all p in
+      record { any = to_any a; all = λ h. a; comparison = λ h. p; sum = λ h. cc; product = λ h. cc; unary = λ h. cc; primary = λ h. cc }
 
   pub tiers-sum : Shown (grammar.sum e) x z → Tiers 4
-  tiers-sum p = let c = to_comparison p in let a = to_all c in record { any = to_any a; all = λ h. a; comparison = λ h. c; sum = λ h. p; product = λ h. cc; unary = λ h. cc; primary = λ h. cc }
+  tiers-sum p = let c = to_comparison p in let a = to_all c in
+      record { any = to_any a; all = λ h. a; comparison = λ h. c; sum = λ h. p; product = λ h. cc; unary = λ h. cc; primary = λ h. cc }
 
   pub tiers-product : Shown (grammar.product e) x z → Tiers 5
-  tiers-product p = let s = to_sum p in let c = to_comparison s in let a = to_all c in record { any = to_any a; all = λ h. a; comparison = λ h. c; sum = λ h. s; product = λ h. p; unary = λ h. cc; primary = λ h. cc }
+  tiers-product p = let s = to_sum p in let c = to_comparison s in let a = to_all c in
+      record { any = to_any a; all = λ h. a; comparison = λ h. c; sum = λ h. s; product = λ h. p; unary = λ h. cc; primary = λ h. cc }
 
   pub tiers-unary : Shown (grammar.unary e) x z → Tiers 6
   tiers-unary p =
@@ -142,7 +170,8 @@ in_primary e x z (marks, p) = (
   Prints-left (grammar.in_parentheses e) _ unplaced (unplaced x) hard (in_parentheses z) _
       (harder (grammar.in_parentheses e) unplaced (unplaced x) (in_parentheses z) _
       (sign_then 40 _ unplaced (unplaced x) soft (z ++ 41 ∷ []) _ refl refl
-      (Prints-then e _ unplaced unplaced x (unplaced x) (unplaced x) hard soft z (41 ∷ []) marks _ refl p (λ y same. sign_last 41 y unplaced (unplaced x) refl refl same) (λ rest may. refl)))),
+      (Prints-then e _ unplaced unplaced x (unplaced x) (unplaced x) hard soft z (41 ∷ []) marks _ refl p
+      (λ y same. sign_last 41 y unplaced (unplaced x) refl refl same) (λ rest may. refl)))),
 )
 
 -- a leaf is a primary
@@ -151,6 +180,7 @@ unfolding grammar.primary
 leaf_primary e node z (marks, p) = (
   marks,
   Prints-right (grammar.in_parentheses e) _ unplaced (grammar.expression 0 (unplaced_node node)) hard z marks
-      (Prints-made (rule.placed leaf) grammar.at_first (λ found. unplaced_node found.1) unplaced (unplaced_node node) (grammar.expression 0 (unplaced_node node)) hard z marks
+      (Prints-made (rule.placed leaf) grammar.at_first (λ found. unplaced_node found.1) unplaced (unplaced_node node)
+      (grammar.expression 0 (unplaced_node node)) hard z marks
       (Prints-placed leaf unplaced_node (unplaced_node node) hard z marks p) (λ y same. ap (grammar.expression 0) same)),
 )

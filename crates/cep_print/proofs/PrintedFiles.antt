@@ -45,11 +45,14 @@ later : (r s : Rule SkipDecl) (goal : SkipDecl) (z : Text) → Printed s unplace
 later r s goal z (marks, p) = (marks, Prints-right r s unplaced_skip goal hard z marks p)
 
 -- a word alone
-alone : (word : Text) (what : SkipDecl) → is_word word ≡ true → Printed (rule.◌>>◌ (rule.keyword word) (rule.pure what)) unplaced_skip (unplaced_skip what) hard word
-alone word what f = (_, Prints-made (rule.keyword word) (λ u. what) unseen unplaced_skip tt (unplaced_skip what) hard word _ (Prints-keyword word f) (λ u is. refl))
+alone : (word : Text) (what : SkipDecl) → is_word word ≡ true
+    → Printed (rule.◌>>◌ (rule.keyword word) (rule.pure what)) unplaced_skip (unplaced_skip what) hard word
+alone word what f =
+    (_, Prints-made (rule.keyword word) (λ u. what) unseen unplaced_skip tt (unplaced_skip what) hard word _ (Prints-keyword word f) (λ u is. refl))
 
 -- a word with a name
-with_name : (word : Text) (make : Name → SkipDecl) (name : Name) → is_word word ≡ true → is_name name.text ≡ true → ((y : Name) → unplaced_name y ≡ unplaced_name name → unplaced_skip (make y) ≡ unplaced_skip (make name))
+with_name : (word : Text) (make : Name → SkipDecl) (name : Name) → is_word word ≡ true → is_name name.text ≡ true
+    → ((y : Name) → unplaced_name y ≡ unplaced_name name → unplaced_skip (make y) ≡ unplaced_skip (make name))
     → Printed (rule.◌>>◌ (rule.keyword word) (rule.◌>>=◌ grammar.named (λ y. rule.pure (make y)))) unplaced_skip (unplaced_skip (make name)) hard (word ++ (40 ∷ (literal name.text ++ codes ")")))
 with_name word make name f g so =
     let p = named_shown name g in (
@@ -78,11 +81,17 @@ skip_shown what f =
           (λ y is. line_end y unplaced_skip goal is) (λ rest may. refl))),
     )
 
-maybe_skip_shown : (skip : Option SkipDecl) → of_some is_formed_skip skip ≡ true → Printed (rule.maybe grammar.skip) (option_map unplaced_skip) (option_map unplaced_skip skip) soft (skip_text skip)
-maybe_skip_shown None f = (_, Prints-right _ (rule.pure None) (option_map unplaced_skip) None soft [] _ (Prints-pure None (option_map unplaced_skip) soft soft_stays))
+maybe_skip_shown : (skip : Option SkipDecl) → of_some is_formed_skip skip ≡ true
+    → Printed (rule.maybe grammar.skip) (option_map unplaced_skip) (option_map unplaced_skip skip) soft (skip_text skip)
+maybe_skip_shown None f =
+    (_, Prints-right _ (rule.pure None) (option_map unplaced_skip) None soft [] _ (Prints-pure None (option_map unplaced_skip) soft soft_stays))
 maybe_skip_shown (Some what) f =
-    let p = skip_shown what f in
-    (p.0, Prints-left _ (rule.pure None) (option_map unplaced_skip) (Some (unplaced_skip what)) soft (skip_text (Some what)) p.0 (Prints-made grammar.skip Some unplaced_skip (option_map unplaced_skip) (unplaced_skip what) (Some (unplaced_skip what)) soft _ p.0 p.1 (λ y is. ap Some is)))
+    let p = skip_shown what f in (
+      p.0,
+      Prints-left _ (rule.pure None) (option_map unplaced_skip) (Some (unplaced_skip what)) soft (skip_text (Some what)) p.0
+          (Prints-made grammar.skip Some unplaced_skip (option_map unplaced_skip) (unplaced_skip what) (Some (unplaced_skip what)) soft _ p.0 p.1
+          (λ y is. ap Some is)),
+    )
 
 -- ---- the select
 
@@ -110,7 +119,8 @@ module _ (n : ℕ) where
   abbrev with_sign : Text × Text → Text
   with_sign part = part.0 ++ part.1
 
-  select_shown : (shown : List SynExpr) → is_formed_select shown ≡ true → shown_height shown ≤ n → Printed (grammar.select e) (map unplaced) (map unplaced shown) soft (select_text (Some shown))
+  select_shown : (shown : List SynExpr) → is_formed_select shown ≡ true → shown_height shown ≤ n
+      → Printed (grammar.select e) (map unplaced) (map unplaced shown) soft (select_text (Some shown))
   unfolding grammar.select
   select_shown [] f h = cc
   select_shown (x ∷ xs) f h =
@@ -130,11 +140,17 @@ module _ (n : ℕ) where
             (λ rest may. subst (λ l. hard (front l) ≡ true) (sym (append_assoc m (codes ";\n") rest)) (behind.begins (codes ";\n" ++ rest) refl)))),
       )
 
-  maybe_select_shown : (select : Option (List SynExpr)) → of_some is_formed_select select ≡ true → select_height select ≤ n → Printed (rule.maybe (grammar.select e)) (option_map (map unplaced)) (option_map (map unplaced) select) soft (select_text select)
-  maybe_select_shown None f h = (_, Prints-right _ (rule.pure None) (option_map (map unplaced)) None soft [] _ (Prints-pure None (option_map (map unplaced)) soft soft_stays))
+  maybe_select_shown : (select : Option (List SynExpr)) → of_some is_formed_select select ≡ true → select_height select ≤ n
+      → Printed (rule.maybe (grammar.select e)) (option_map (map unplaced)) (option_map (map unplaced) select) soft (select_text select)
+  maybe_select_shown None f h =
+      (_, Prints-right _ (rule.pure None) (option_map (map unplaced)) None soft [] _ (Prints-pure None (option_map (map unplaced)) soft soft_stays))
   maybe_select_shown (Some shown) f h =
-      let p = select_shown shown f h in
-      (p.0, Prints-left _ (rule.pure None) (option_map (map unplaced)) (Some (map unplaced shown)) soft (select_text (Some shown)) p.0 (Prints-made (grammar.select e) Some (map unplaced) (option_map (map unplaced)) (map unplaced shown) (Some (map unplaced shown)) soft _ p.0 p.1 (λ y is. ap Some is)))
+      let p = select_shown shown f h in (
+        p.0,
+        Prints-left _ (rule.pure None) (option_map (map unplaced)) (Some (map unplaced shown)) soft (select_text (Some shown)) p.0
+            (Prints-made (grammar.select e) Some (map unplaced) (option_map (map unplaced)) (map unplaced shown) (Some (map unplaced shown)) soft _ p.0
+            p.1 (λ y is. ap Some is)),
+      )
 
   abbrev Soft : Text → Type 0
   Soft z = (rest : Text) → soft (front rest) ≡ true → soft (front (z ++ rest)) ≡ true
@@ -152,10 +168,14 @@ module _ (n : ℕ) where
       let ss = maybe_select_shown f.select form.shows (later_below (stages_height f.openers) (select_height f.select) n h) in
       let w = skip_text f.skip ++ select_text f.select in (
         _,
-        Prints-then (rule.many grammar.declaration) _ (map unplaced_type) unplaced_file f.types (map unplaced_type f.types) goal soft soft (types_text f.types) (pattern_text f.openers f.within ++ w) ts.0 _ refl ts.1
-            (λ types a. Prints-then (grammar.pattern e) _ (see_pattern n) unplaced_file (found_pattern n f.openers f.within) (see_pattern n (found_pattern n f.openers f.within)) goal soft soft (pattern_text f.openers f.within) w ps.0 _ refl ps.1
-            (λ found b. Prints-then (rule.maybe grammar.skip) _ (option_map unplaced_skip) unplaced_file f.skip (option_map unplaced_skip f.skip) goal soft soft (skip_text f.skip) (select_text f.select) ks.0 ss.0 refl ks.1
-            (λ after c. Prints-made (rule.maybe (grammar.select e)) _ (option_map (map unplaced)) unplaced_file (option_map (map unplaced) f.select) goal soft (select_text f.select) ss.0 ss.1
+        Prints-then (rule.many grammar.declaration) _ (map unplaced_type) unplaced_file f.types (map unplaced_type f.types) goal soft soft
+            (types_text f.types) (pattern_text f.openers f.within ++ w) ts.0 _ refl ts.1
+            (λ types a. Prints-then (grammar.pattern e) _ (see_pattern n) unplaced_file (found_pattern n f.openers f.within)
+            (see_pattern n (found_pattern n f.openers f.within)) goal soft soft (pattern_text f.openers f.within) w ps.0 _ refl ps.1
+            (λ found b. Prints-then (rule.maybe grammar.skip) _ (option_map unplaced_skip) unplaced_file f.skip (option_map unplaced_skip f.skip)
+            goal soft soft (skip_text f.skip) (select_text f.select) ks.0 ss.0 refl ks.1
+            (λ after c. Prints-made (rule.maybe (grammar.select e)) _ (option_map (map unplaced)) unplaced_file (option_map (map unplaced) f.select)
+            goal soft (select_text f.select) ss.0 ss.1
             (λ shown d i. record { types = a i; openers = (b i).0; within = (b i).1; skip = c i; select = d i }))
             ss.1.begins)
             (both_soft (skip_text f.skip) (select_text f.select) ks.1.begins ss.1.begins))

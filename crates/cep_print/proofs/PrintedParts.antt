@@ -32,11 +32,13 @@ pub record Operands (e : Rule SynExpr) (node : SynNode) : Type 0 where
   pub unary : Shown (grammar.unary e) (expression 0 node) (enclosed 5 (level_of node) (node_text node))
   pub primary : Shown (grammar.primary e) (expression 0 node) (enclosed 6 (level_of node) (node_text node))
 
-either_way : (r : Rule SynExpr) (x : SynExpr) (z : Text) (b : Bool) → (b ≡ true → Shown r x z) → Shown r x (in_parentheses z) → Shown r x (cond b z (in_parentheses z))
+either_way : (r : Rule SynExpr) (x : SynExpr) (z : Text) (b : Bool) → (b ≡ true → Shown r x z) → Shown r x (in_parentheses z)
+    → Shown r x (cond b z (in_parentheses z))
 either_way r x z true bare boxed = bare refl
 either_way r x z false bare boxed = boxed
 
-pub operands : (m : ℕ) (node : SynNode) → Tiers (expression_within (suc m)) (expression 0 node) (node_text node) (level_of node) → Tiers (expression_within m) (expression 0 node) (node_text node) (level_of node) → Operands (expression_within (suc m)) node
+pub operands : (m : ℕ) (node : SynNode) → Tiers (expression_within (suc m)) (expression 0 node) (node_text node) (level_of node)
+    → Tiers (expression_within m) (expression 0 node) (node_text node) (level_of node) → Operands (expression_within (suc m)) node
 unfolding expression_within
 operands m node upper lower =
     let e = expression_within (suc m) in
@@ -74,7 +76,8 @@ module _ {O T V : Type 0} (signs : Lexeme → Option O) (made : O → SynExpr �
         (softly operand unplaced (unplaced x) hard z marks q),
   )
 
-  pub chain_more : (of : ℕ × (SynExpr × List T) → SynExpr) (x goal : SynExpr) (targets : List V) (z w : Text) → Shown operand x z → Printed (rule.many next) (map see) targets hard w
+  pub chain_more : (of : ℕ × (SynExpr × List T) → SynExpr) (x goal : SynExpr) (targets : List V) (z w : Text) → Shown operand x z
+      → Printed (rule.many next) (map see) targets hard w
       → ((rest : Text) → hard (front rest) ≡ true → hard (front (w ++ rest)) ≡ true)
       → ((place : ℕ) (y : SynExpr) (ys : List T) → unplaced y ≡ unplaced x → map see ys ≡ targets → unplaced (of (place, (y, ys))) ≡ goal)
       → Printed (rule.◌>>=◌ (grammar.chain signs made operand) (λ found. rule.pure (of found))) unplaced goal hard (z ++ w)
@@ -94,7 +97,18 @@ module _ {O T V : Type 0} (signs : Lexeme → Option O) (made : O → SynExpr �
               back = [];
               value = (place_of used, (a.0, b.0));
               is = sym (append-nil used);
-              first = (record { front = parts.front; back = parts.back; value = a.0; is = parts.is; first = a.1; second = record { front = parts.back; back = []; value = b.0; is = sym (append-nil parts.back); first = b.1; second = (refl, refl) } }, refl);
+              first = (
+                record {
+                  front = parts.front;
+                  back = parts.back;
+                  value = a.0;
+                  is = parts.is;
+                  first = a.1;
+                  second =
+                      record { front = parts.back; back = []; value = b.0; is = sym (append-nil parts.back); first = b.1; second = (refl, refl) };
+                },
+                refl,
+              );
               second = (refl, refl);
             },
             law (place_of used) a.0 b.0 a.2 b.2,
@@ -110,7 +124,9 @@ pub record Rest {T V : Type 0} (r : Rule T) (see : T → V) (targets : List V) (
 pub rest_none : {T V : Type 0} (r : Rule T) (see : T → V) → Rest r see [] []
 rest_none r see = record { found = ([], Prints-no_more r see hard hard_is_soft); begins = λ rest may. may }
 
-pub rest_more : {T V : Type 0} (r : Rule T) (see : T → V) (target : V) (targets : List V) (sign z w : Text) → ((rest : Text) → hard (front (sign ++ rest)) ≡ true) → Printed r see target hard (sign ++ z) → Rest r see targets w → Rest r see (target ∷ targets) ((sign ++ z) ++ w)
+pub rest_more : {T V : Type 0} (r : Rule T) (see : T → V) (target : V) (targets : List V) (sign z w : Text)
+    → ((rest : Text) → hard (front (sign ++ rest)) ≡ true) → Printed r see target hard (sign ++ z) → Rest r see targets w
+    → Rest r see (target ∷ targets) ((sign ++ z) ++ w)
 rest_more r see target targets sign z w starts (marks, p) later = record {
   found = (_, Prints-more r see target targets hard hard (sign ++ z) w marks later.found.0 p later.found.1 later.begins);
   begins = λ rest may. subst (λ l. hard (front l) ≡ true) (sym (append_assoc (sign ++ z) w rest ∙ append_assoc sign z (w ++ rest))) (starts (z ++ (w ++ rest)));
@@ -134,11 +150,13 @@ abbrev with_sign : Text × Text → Text
 with_sign part = part.0 ++ part.1
 
 rest_parts : {n : _} (e : Rule SynExpr) (r : Rule SynExpr) (between : Text) (around : ℕ) → ((rest : Text) → hard (front (between ++ rest)) ≡ true)
-    → ((node : SynNode) → Operands e node → Printed r unplaced (unplaced (expression 0 node)) hard (between ++ enclosed around (level_of node) (node_text node)))
+    → ((node : SynNode) → Operands e node
+    → Printed r unplaced (unplaced (expression 0 node)) hard (between ++ enclosed around (level_of node) (node_text node)))
     → (row : Row_of-SynExpr n) → EachPart (Operands e) row → Rest r unplaced (unplaced_parts row) (flat_map with_sign (part_texts between around row))
 rest_parts e r between around starts pick end_of-SynExpr each = rest_none r unplaced
 rest_parts e r between around starts pick (more_of-SynExpr place node row) each =
-    rest_more r unplaced (unplaced (expression 0 node)) (unplaced_parts row) between (enclosed around (level_of node) (node_text node)) (flat_map with_sign (part_texts between around row)) starts (pick node each.0) (rest_parts e r between around starts pick row each.1)
+    rest_more r unplaced (unplaced (expression 0 node)) (unplaced_parts row) between (enclosed around (level_of node) (node_text node))
+    (flat_map with_sign (part_texts between around row)) starts (pick node each.0) (rest_parts e r between around starts pick row each.1)
 
 -- ---- `||` and `&&`
 
@@ -148,12 +166,14 @@ sign_or = Prints-spaced (only (symbol (codes "||"))) (λ o. o) tt kind.Symbol (c
 sign_and : Prints (rule.one (only (symbol (codes "&&")))) (λ o. o) tt soft (codes " && ") ((kind.Symbol, codes "&&") ∷ [])
 sign_and = Prints-spaced (only (symbol (codes "&&"))) (λ o. o) tt kind.Symbol (codes "&&") no_need refl (is_token-double 38 38 refl) (λ place. (tt, refl, refl))
 
-any_law : (x : SynExpr) (second : SynExpr) (targets : List SynExpr) (place : ℕ) (y : SynExpr) (ys : List SynExpr) → unplaced y ≡ unplaced x → map unplaced ys ≡ second ∷ targets
+any_law : (x : SynExpr) (second : SynExpr) (targets : List SynExpr) (place : ℕ) (y : SynExpr) (ys : List SynExpr) → unplaced y ≡ unplaced x
+    → map unplaced ys ≡ second ∷ targets
     → unplaced (grammar.any_of (place, (y, ys))) ≡ expression 0 (Any (unplaced x ∷ second ∷ targets))
 any_law x second targets place y [] is same = cc
 any_law x second targets place y (s ∷ ys) is same = ap (expression 0) (unplaced-Any (y ∷ s ∷ ys) ∙ ap Any (λ i. is i ∷ same i))
 
-all_law : (x : SynExpr) (second : SynExpr) (targets : List SynExpr) (place : ℕ) (y : SynExpr) (ys : List SynExpr) → unplaced y ≡ unplaced x → map unplaced ys ≡ second ∷ targets
+all_law : (x : SynExpr) (second : SynExpr) (targets : List SynExpr) (place : ℕ) (y : SynExpr) (ys : List SynExpr) → unplaced y ≡ unplaced x
+    → map unplaced ys ≡ second ∷ targets
     → unplaced (grammar.all_of (place, (y, ys))) ≡ expression 0 (All (unplaced x ∷ second ∷ targets))
 all_law x second targets place y [] is same = cc
 all_law x second targets place y (s ∷ ys) is same = ap (expression 0) (unplaced-All (y ∷ s ∷ ys) ∙ ap All (λ i. is i ∷ same i))

@@ -65,7 +65,8 @@ module _ (n : ℕ) where
   e = expression_within (suc n)
 
   -- what stands behind the word of a condition
-  condition_shown : (make : SynExpr → ModKind) (x : SynExpr) → is_formed x ≡ true → height x.node ≤ n → ((y : SynExpr) → unplaced y ≡ unplaced x → unplaced_kind (make y) ≡ unplaced_kind (make x))
+  condition_shown : (make : SynExpr → ModKind) (x : SynExpr) → is_formed x ≡ true → height x.node ≤ n
+      → ((y : SynExpr) → unplaced y ≡ unplaced x → unplaced_kind (make y) ≡ unplaced_kind (make x))
       → Printed (rule.◌>>=◌ (grammar.condition e) (λ y. rule.pure (make y))) unplaced_kind (unplaced_kind (make x)) soft (40 ∷ (expression_text x ++ codes ")"))
   unfolding grammar.condition
   condition_shown make x formed h so =
@@ -83,7 +84,8 @@ module _ (n : ℕ) where
     _,
     Prints-left _ (rule.pure None) (λ x. x) (Some k) hard (second_text (Some k)) _
         (Prints-made (rule.◌>>◌ (rule.sign (codes ",")) (rule.one number)) Some (λ x. x) (λ x. x) k (Some k) hard (second_text (Some k)) _
-        (sign_then 44 (rule.one number) (λ x. x) k hard (32 ∷ decimal k) _ refl refl (Prints-blank_before (rule.one number) (λ x. x) k hard (decimal k) _ (Prints-number k (at_most k f)))) (λ y is. ap Some is)),
+        (sign_then 44 (rule.one number) (λ x. x) k hard (32 ∷ decimal k) _ refl refl
+        (Prints-blank_before (rule.one number) (λ x. x) k hard (decimal k) _ (Prints-number k (at_most k f)))) (λ y is. ap Some is)),
   )
 
   second_begins : (to : Option ℕ) (rest : Text) → hard (front (second_text to ++ (codes ")" ++ rest))) ≡ true
@@ -116,7 +118,8 @@ module _ (n : ℕ) where
   bare_shown what = (_, sign_then 40 _ unplaced_kind (unplaced_kind what) soft (codes ")") _ refl refl (sign_last 41 what unplaced_kind (unplaced_kind what) refl refl refl))
 
   -- the word of a modifier, and what stands behind it
-  worded : (word : Text) (r : Rule ModKind) (goal : ModKind) (w : Text) → is_word word ≡ true → ((rest : Text) → hard (front (w ++ rest)) ≡ true) → Printed r unplaced_kind goal soft w → Printed (rule.◌>>◌ (rule.keyword word) r) unplaced_kind goal soft (word ++ w)
+  worded : (word : Text) (r : Rule ModKind) (goal : ModKind) (w : Text) → is_word word ≡ true → ((rest : Text) → hard (front (w ++ rest)) ≡ true)
+      → Printed r unplaced_kind goal soft w → Printed (rule.◌>>◌ (rule.keyword word) r) unplaced_kind goal soft (word ++ w)
   worded word r goal w e begins (marks, p) = (_, word_then word r unplaced_kind goal soft w marks e (λ rest may. begins rest) p)
 
   here : (r s : Rule ModKind) (goal : ModKind) (z : Text) → Printed r unplaced_kind goal soft z → Printed (rule.◌or◌ r s) unplaced_kind goal soft z
@@ -129,7 +132,8 @@ module _ (n : ℕ) where
   without_dot [] = []
   without_dot (b ∷ z) = z
 
-  kind_shown : (what : ModKind) → is_formed_modifier what ≡ true → kind_height what ≤ n → Printed (grammar.modifier_kind e) unplaced_kind (unplaced_kind what) soft (without_dot (modifier_text what))
+  kind_shown : (what : ModKind) → is_formed_modifier what ≡ true → kind_height what ≤ n
+      → Printed (grammar.modifier_kind e) unplaced_kind (unplaced_kind what) soft (without_dot (modifier_text what))
   kind_shown (Filter Both x) f h = here _ _ _ _ (worded (codes "where") _ _ _ refl (λ rest. refl) (condition_shown (Filter Both) x f h (λ y is. ap (Filter Both) is)))
   kind_shown (Filter Either x) f h = later _ _ _ _ (here _ _ _ _ (worded (codes "or") _ _ _ refl (λ rest. refl) (condition_shown (Filter Either) x f h (λ y is. ap (Filter Either) is))))
   kind_shown (Times from to) f h = let k = and_parts (is_number from) (of_some is_number to) f in later _ _ _ _ (later _ _ _ _ (here _ _ _ _ (worded (codes "times") _ _ _ refl (λ rest. refl) (times_shown from to k.0 k.1))))
@@ -154,7 +158,8 @@ module _ (n : ℕ) where
   abbrev dot_modifier : Rule Modifier
   dot_modifier = rule.◌>>◌ (rule.sign (codes ".")) (grammar.modifier e)
 
-  modifier_shown : (m : Modifier) → is_formed_modifier m.what ≡ true → kind_height m.what ≤ n → Printed dot_modifier unplaced_modifier (unplaced_modifier m) soft (modifier_text m.what)
+  modifier_shown : (m : Modifier) → is_formed_modifier m.what ≡ true → kind_height m.what ≤ n
+      → Printed dot_modifier unplaced_modifier (unplaced_modifier m) soft (modifier_text m.what)
   unfolding grammar.modifier
   modifier_shown m f h =
       let p = kind_shown m.what f h in
@@ -162,17 +167,23 @@ module _ (n : ℕ) where
       subst (λ l. Printed dot_modifier unplaced_modifier (unplaced_modifier m) soft l) (dotted m.what) (
         _,
         sign_then 46 (grammar.modifier e) unplaced_modifier (unplaced_modifier m) soft w p.0 refl refl
-            (Prints-made (rule.placed (grammar.modifier_kind e)) grammar.placed_modifier (λ found. unplaced_kind found.1) unplaced_modifier (unplaced_kind m.what) (unplaced_modifier m) soft w p.0
-            (Prints-placed (grammar.modifier_kind e) unplaced_kind (unplaced_kind m.what) soft w p.0 p.1) (λ found same i. record { what = same i; place = 0 })),
+            (Prints-made (rule.placed (grammar.modifier_kind e)) grammar.placed_modifier (λ found. unplaced_kind found.1) unplaced_modifier
+            (unplaced_kind m.what) (unplaced_modifier m) soft w p.0
+            (Prints-placed (grammar.modifier_kind e) unplaced_kind (unplaced_kind m.what) soft w p.0 p.1)
+            (λ found same i. record { what = same i; place = 0 })),
       )
 
-  modifiers_shown : (mods : List Modifier) → list_all (λ m. is_formed_modifier m.what) mods ≡ true → mods_height mods ≤ n → Printed (rule.many dot_modifier) (map unplaced_modifier) (map unplaced_modifier mods) soft (modifiers_text mods)
+  modifiers_shown : (mods : List Modifier) → list_all (λ m. is_formed_modifier m.what) mods ≡ true → mods_height mods ≤ n
+      → Printed (rule.many dot_modifier) (map unplaced_modifier) (map unplaced_modifier mods) soft (modifiers_text mods)
   modifiers_shown [] f h = (_, Prints-no_more dot_modifier unplaced_modifier soft soft_stays)
   modifiers_shown (m ∷ mods) f h =
       let k = and_parts (is_formed_modifier m.what) (list_all (λ x. is_formed_modifier x.what) mods) f in
       let p = modifier_shown m k.0 (first_below (kind_height m.what) (mods_height mods) n h) in
-      let more = modifiers_shown mods k.1 (later_below (kind_height m.what) (mods_height mods) n h) in
-      (_, Prints-more dot_modifier unplaced_modifier (unplaced_modifier m) (map unplaced_modifier mods) soft soft (modifier_text m.what) (modifiers_text mods) p.0 more.0 p.1 more.1 more.1.begins)
+      let more = modifiers_shown mods k.1 (later_below (kind_height m.what) (mods_height mods) n h) in (
+        _,
+        Prints-more dot_modifier unplaced_modifier (unplaced_modifier m) (map unplaced_modifier mods) soft soft (modifier_text m.what)
+            (modifiers_text mods) p.0 more.0 p.1 more.1 more.1.begins,
+      )
 
   -- ---- stages
 
@@ -190,7 +201,8 @@ module _ (n : ℕ) where
         (λ y is. sign_last 41 y unplaced_name (unplaced_name name) refl refl is) (λ rest may. refl))),
   )
 
-  of_shown : (of : Option Name) → of_some (λ name. is_word name.text) of ≡ true → Printed of_rule (option_map unplaced_name) (option_map unplaced_name of) soft (of_text of)
+  of_shown : (of : Option Name) → of_some (λ name. is_word name.text) of ≡ true
+      → Printed of_rule (option_map unplaced_name) (option_map unplaced_name of) soft (of_text of)
   of_shown None f = (_, Prints-right _ (rule.pure None) (option_map unplaced_name) None soft [] _ (Prints-pure None (option_map unplaced_name) soft soft_stays))
   of_shown (Some name) f =
       let p = of_name_shown name f in
@@ -204,17 +216,21 @@ module _ (n : ℕ) where
   -- a stage behind its name, however it was opened
   record StageShown (o : Opener) : Type 0 where
     marks : List Mark
-    shown : (how : OpenKind) (name : Name) → how ≡ o.how → unplaced_name name ≡ unplaced_name o.name → Prints (grammar.stage e how name) unplaced_stage (unplaced_stage o) soft (of_text o.of ++ modifiers_text o.mods) marks
+    shown : (how : OpenKind) (name : Name) → how ≡ o.how → unplaced_name name ≡ unplaced_name o.name
+        → Prints (grammar.stage e how name) unplaced_stage (unplaced_stage o) soft (of_text o.of ++ modifiers_text o.mods) marks
 
-  stage_shown : (o : Opener) → of_some (λ name. is_word name.text) o.of ≡ true → list_all (λ m. is_formed_modifier m.what) o.mods ≡ true → mods_height o.mods ≤ n → StageShown o
+  stage_shown : (o : Opener) → of_some (λ name. is_word name.text) o.of ≡ true → list_all (λ m. is_formed_modifier m.what) o.mods ≡ true
+      → mods_height o.mods ≤ n → StageShown o
   stage_shown o f g h =
       let p = of_shown o.of f in
       let q = modifiers_shown o.mods g h in
       record {
         marks = p.0 ++ q.0;
         shown = λ how name same is.
-            Prints-then of_rule _ (option_map unplaced_name) unplaced_stage o.of (option_map unplaced_name o.of) (unplaced_stage o) soft soft (of_text o.of) (modifiers_text o.mods) p.0 q.0 refl p.1
-            (λ of x. Prints-made (rule.many dot_modifier) _ (map unplaced_modifier) unplaced_stage (map unplaced_modifier o.mods) (unplaced_stage o) soft (modifiers_text o.mods) q.0 q.1 (λ mods y i. record { how = same i; name = is i; of = x i; mods = y i }))
+            Prints-then of_rule _ (option_map unplaced_name) unplaced_stage o.of (option_map unplaced_name o.of) (unplaced_stage o) soft soft
+            (of_text o.of) (modifiers_text o.mods) p.0 q.0 refl p.1
+            (λ of x. Prints-made (rule.many dot_modifier) _ (map unplaced_modifier) unplaced_stage (map unplaced_modifier o.mods) (unplaced_stage o)
+            soft (modifiers_text o.mods) q.0 q.1 (λ mods y i. record { how = same i; name = is i; of = x i; mods = y i }))
             q.1.begins;
       }
 
@@ -224,20 +240,23 @@ module _ (n : ℕ) where
   abbrev pair : OpenKind → Name → OpenKind × Name
   pair how name = (how, name)
 
-  opened_by : (word : Text) (how : OpenKind) (name : Name) → is_word word ≡ true → ((place : ℕ) → opener (record { kind = kind.Word; text = word; place = place }) ≡ Some how) → is_name name.text ≡ true
+  opened_by : (word : Text) (how : OpenKind) (name : Name) → is_word word ≡ true
+      → ((place : ℕ) → opener (record { kind = kind.Word; text = word; place = place }) ≡ Some how) → is_name name.text ≡ true
       → Printed grammar.opener_named see_opened (see_opened (pair how name)) soft (word ++ (40 ∷ (literal name.text ++ codes ")")))
   unfolding grammar.opener_named
   opened_by word how name f is g = (
     _,
     Prints-then (rule.one opener) _ (λ x. x) see_opened how how (see_opened (pair how name)) hard soft word (40 ∷ (literal name.text ++ codes ")")) _ _ refl
-        (Prints-one opener (λ x. x) how kind.Word word hard hard_is_soft (is_token-word word f) (λ rest may. word_begins word rest f) (λ place. (how, is place, refl)))
+        (Prints-one opener (λ x. x) how kind.Word word hard hard_is_soft (is_token-word word f) (λ rest may. word_begins word rest f)
+        (λ place. (how, is place, refl)))
         (λ a same. sign_then 40 _ see_opened (see_opened (pair how name)) soft (literal name.text ++ codes ")") _ refl refl
         (Prints-then (rule.one stage_name) _ unplaced_name see_opened name (unplaced_name name) (see_opened (pair how name)) soft soft (literal name.text) (codes ")") _ _ refl (Prints-stage_name name g)
         (λ b so. sign_last 41 (pair a b) see_opened (see_opened (pair how name)) refl refl (λ i. pair (same i) (so i))) (λ rest may. refl)))
         (λ rest may. refl),
   )
 
-  opener_shown : (how : OpenKind) (name : Name) → not (is_begin how) ≡ true → is_name name.text ≡ true → Printed grammar.opener_named see_opened (see_opened (pair how name)) soft (opened_text how name.text)
+  opener_shown : (how : OpenKind) (name : Name) → not (is_begin how) ≡ true → is_name name.text ≡ true
+      → Printed grammar.opener_named see_opened (see_opened (pair how name)) soft (opened_text how name.text)
   unfolding opener
   opener_shown Begin name f g = cc
   opener_shown Next name f g = opened_by (codes "next") Next name refl (λ place. refl) g
@@ -246,7 +265,8 @@ module _ (n : ℕ) where
   opener_shown NotNext name f g = opened_by (codes "notNext") NotNext name refl (λ place. refl) g
   opener_shown NotFollowedBy name f g = opened_by (codes "notFollowedBy") NotFollowedBy name refl (λ place. refl) g
 
-  formed_stage : (o : Opener) → is_formed_opener o ≡ true → (is_name o.name.text ≡ true) × (of_some (λ name. is_word name.text) o.of ≡ true) × (list_all (λ m. is_formed_modifier m.what) o.mods ≡ true)
+  formed_stage : (o : Opener) → is_formed_opener o ≡ true → (is_name o.name.text ≡ true) × (of_some (λ name. is_word name.text) o.of ≡ true)
+      × (list_all (λ m. is_formed_modifier m.what) o.mods ≡ true)
   formed_stage o f =
       let a = and_parts (is_name o.name.text) _ f in
       let b = and_parts (of_some (λ name. is_word name.text) o.of) (list_all (λ m. is_formed_modifier m.what) o.mods) a.1 in
@@ -260,7 +280,8 @@ module _ (n : ℕ) where
       let w = of_text o.of ++ modifiers_text o.mods in (
         _,
         sign_then 46 _ unplaced_stage (unplaced_stage o) soft (stage_text o) _ refl refl
-            (Prints-then grammar.opener_named (λ opened. grammar.stage e opened.0 opened.1) see_opened unplaced_stage (pair o.how o.name) (see_opened (pair o.how o.name)) (unplaced_stage o) soft soft (opened_text o.how o.name.text) w p.0 s.marks refl p.1
+            (Prints-then grammar.opener_named (λ opened. grammar.stage e opened.0 opened.1) see_opened unplaced_stage (pair o.how o.name)
+            (see_opened (pair o.how o.name)) (unplaced_stage o) soft soft (opened_text o.how o.name.text) w p.0 s.marks refl p.1
             (λ y is. s.shown y.0 y.1 (ap (λ x. x.0) is) (ap (λ x. x.1) is))
             (s.shown o.how o.name refl refl).begins),
       )
@@ -268,7 +289,8 @@ module _ (n : ℕ) where
   abbrev with_sign : Text × Text → Text
   with_sign part = part.0 ++ part.1
 
-  more_stages : (openers : List Opener) → list_all is_formed_opener openers ≡ true → list_all (λ o. not (is_begin o.how)) openers ≡ true → stages_height openers ≤ n
+  more_stages : (openers : List Opener) → list_all is_formed_opener openers ≡ true → list_all (λ o. not (is_begin o.how)) openers ≡ true
+      → stages_height openers ≤ n
       → Printed (rule.many (grammar.next_stage e)) (map unplaced_stage) (map unplaced_stage openers) soft (flat_map with_sign (map stage_part openers))
   more_stages [] f g h = (_, Prints-no_more (grammar.next_stage e) unplaced_stage soft soft_stays)
   more_stages (o ∷ openers) f g h =
@@ -282,7 +304,8 @@ module _ (n : ℕ) where
 
   limit_shown : (limit : Option PlacedNumber) → of_some (λ x. is_number x.value) limit ≡ true → Printed (rule.maybe (rule.◌>>◌ (rule.sign (codes ".")) grammar.time_limit)) (option_map unplaced_limit) (option_map unplaced_limit limit) soft (limit_text limit)
   unfolding grammar.time_limit
-  limit_shown None f = (_, Prints-right _ (rule.pure None) (option_map unplaced_limit) None soft [] _ (Prints-pure None (option_map unplaced_limit) soft soft_stays))
+  limit_shown None f =
+      (_, Prints-right _ (rule.pure None) (option_map unplaced_limit) None soft [] _ (Prints-pure None (option_map unplaced_limit) soft soft_stays))
   limit_shown (Some x) f =
       let goal = unplaced_limit x in (
         _,
@@ -293,7 +316,8 @@ module _ (n : ℕ) where
             (sign_then 40 _ unplaced_limit goal soft (decimal x.value ++ codes ")") _ refl refl
             (Prints-then (rule.placed (rule.one number)) _ (λ found. found.1) unplaced_limit (0, x.value) x.value goal hard soft (decimal x.value) (codes ")") _ _ refl
             (Prints-placed (rule.one number) (λ v. v) x.value hard (decimal x.value) _ (Prints-number x.value (at_most x.value f)))
-            (λ found same. sign_last 41 (grammar.placed_number found) unplaced_limit goal refl refl (λ i. record { value = same i; place = 0 })) (λ rest may. refl)))))
+            (λ found same. sign_last 41 (grammar.placed_number found) unplaced_limit goal refl refl (λ i. record { value = same i; place = 0 }))
+            (λ rest may. refl)))))
             (λ y is. ap Some is)),
       )
 
@@ -317,7 +341,8 @@ module _ (n : ℕ) where
       ∙ ap (λ l. l ++ t) (append_assoc a (41 ∷ s) m)
       ∙ append_assoc a (41 ∷ (s ++ m)) t
 
-  pub pattern_shown : (openers : List Opener) (limit : Option PlacedNumber) → begins_once openers ≡ true → list_all is_formed_opener openers ≡ true → of_some (λ x. is_number x.value) limit ≡ true → stages_height openers ≤ n
+  pub pattern_shown : (openers : List Opener) (limit : Option PlacedNumber) → begins_once openers ≡ true → list_all is_formed_opener openers ≡ true
+      → of_some (λ x. is_number x.value) limit ≡ true → stages_height openers ≤ n
       → Printed (grammar.pattern e) see_pattern (see_pattern (found_pattern openers limit)) soft (pattern_text openers limit)
   unfolding grammar.pattern
   pattern_shown [] limit f g k h = cc
@@ -344,11 +369,15 @@ module _ (n : ℕ) where
             (Prints-blank_before _ see_pattern goal soft (codes "begin(" ++ (lit ++ (41 ∷ ((s ++ m) ++ t)))) _
             (word_then (codes "begin") _ see_pattern goal soft (40 ∷ (lit ++ (41 ∷ ((s ++ m) ++ t)))) _ refl (λ rest may. refl)
             (sign_then 40 _ see_pattern goal soft (lit ++ (41 ∷ ((s ++ m) ++ t))) _ refl refl
-            (Prints-then (rule.one stage_name) _ unplaced_name see_pattern first.name (unplaced_name first.name) goal soft soft lit (41 ∷ ((s ++ m) ++ t)) _ _ refl (Prints-stage_name first.name form.0)
+            (Prints-then (rule.one stage_name) _ unplaced_name see_pattern first.name (unplaced_name first.name) goal soft soft lit
+            (41 ∷ ((s ++ m) ++ t)) _ _ refl (Prints-stage_name first.name form.0)
             (λ name is. sign_then 41 _ see_pattern goal soft ((s ++ m) ++ t) _ refl refl
-            (Prints-then (grammar.stages e name) _ (map unplaced_stage) see_pattern openers (map unplaced_stage openers) goal soft soft (s ++ m) t (st.marks ++ ms.0) _ refl
-            (Prints-then (grammar.stage e Begin name) _ unplaced_stage (map unplaced_stage) first (unplaced_stage first) (map unplaced_stage openers) soft soft s m st.marks ms.0 refl (st.shown Begin name (sym begin) is)
-            (λ y same. Prints-made (rule.many (grammar.next_stage e)) (λ ys. y ∷ ys) (map unplaced_stage) (map unplaced_stage) (map unplaced_stage more) (map unplaced_stage openers) soft m ms.0 ms.1 (λ ys so i. same i ∷ so i))
+            (Prints-then (grammar.stages e name) _ (map unplaced_stage) see_pattern openers (map unplaced_stage openers) goal soft soft (s ++ m) t
+            (st.marks ++ ms.0) _ refl
+            (Prints-then (grammar.stage e Begin name) _ unplaced_stage (map unplaced_stage) first (unplaced_stage first) (map unplaced_stage openers)
+            soft soft s m st.marks ms.0 refl (st.shown Begin name (sym begin) is)
+            (λ y same. Prints-made (rule.many (grammar.next_stage e)) (λ ys. y ∷ ys) (map unplaced_stage) (map unplaced_stage)
+            (map unplaced_stage more) (map unplaced_stage openers) soft m ms.0 ms.1 (λ ys so i. same i ∷ so i))
             ms.1.begins)
             (λ ys same. Prints-then (rule.maybe (rule.◌>>◌ (rule.sign (codes ".")) grammar.time_limit)) _ (option_map unplaced_limit) see_pattern limit (option_map unplaced_limit limit) goal soft soft (limit_text limit) (codes ";\n") lim.0 _ refl lim.1
             (λ l so. line_end (found_pattern ys l) see_pattern goal (λ i. found_pattern (same i) (so i))) (λ rest may. refl))

@@ -82,12 +82,16 @@ field_shown f e =
     let k = kind_shown f.kind in
     let goal = unplaced_field f in (
       _,
-      Prints-then (rule.one any_word) _ unplaced_name unplaced_field f.name (unplaced_name f.name) goal hard hard f.name.text (32 ∷ kind_text f.kind) _ k.0 refl (Prints-any_word f.name e)
-          (λ y is. Prints-made (rule.one kind_of) _ (λ x. x) unplaced_field f.kind goal hard (32 ∷ kind_text f.kind) k.0 (Prints-blank_before (rule.one kind_of) (λ x. x) f.kind hard (kind_text f.kind) k.0 k.1) (λ x same i. record { name = is i; kind = same i }))
+      Prints-then (rule.one any_word) _ unplaced_name unplaced_field f.name (unplaced_name f.name) goal hard hard f.name.text (32 ∷ kind_text f.kind)
+          _ k.0 refl (Prints-any_word f.name e)
+          (λ y is. Prints-made (rule.one kind_of) _ (λ x. x) unplaced_field f.kind goal hard (32 ∷ kind_text f.kind) k.0
+          (Prints-blank_before (rule.one kind_of) (λ x. x) f.kind hard (kind_text f.kind) k.0 k.1)
+          (λ x same i. record { name = is i; kind = same i }))
           (λ rest may. refl),
     )
 
-fields_shown : (fields : List FieldDecl) → list_all (λ field. is_word field.name.text) fields ≡ true → Printed grammar.fields (map unplaced_field) (map unplaced_field fields) hard (chained (map field_part fields))
+fields_shown : (fields : List FieldDecl) → list_all (λ field. is_word field.name.text) fields ≡ true
+    → Printed grammar.fields (map unplaced_field) (map unplaced_field fields) hard (chained (map field_part fields))
 unfolding grammar.fields
 fields_shown [] e = (_, Prints-right _ (rule.pure []) (map unplaced_field) [] hard [] _ (Prints-pure [] (map unplaced_field) hard hard_is_soft))
 fields_shown (f ∷ fields) e =
@@ -113,10 +117,14 @@ type_shown d e =
           (λ rest may. refl))),
     )
 
-pub types_shown : (types : List TypeDecl) → list_all is_formed_type types ≡ true → Printed (rule.many grammar.declaration) (map unplaced_type) (map unplaced_type types) soft (types_text types)
+pub types_shown : (types : List TypeDecl) → list_all is_formed_type types ≡ true
+    → Printed (rule.many grammar.declaration) (map unplaced_type) (map unplaced_type types) soft (types_text types)
 types_shown [] e = (_, Prints-no_more grammar.declaration unplaced_type soft soft_stays)
 types_shown (d ∷ types) e =
     let k = and_parts (is_formed_type d) (list_all is_formed_type types) e in
     let p = type_shown d k.0 in
-    let more = types_shown types k.1 in
-    (_, Prints-more grammar.declaration unplaced_type (unplaced_type d) (map unplaced_type types) soft soft (type_text d) (types_text types) p.0 more.0 p.1 more.1 more.1.begins)
+    let more = types_shown types k.1 in (
+      _,
+      Prints-more grammar.declaration unplaced_type (unplaced_type d) (map unplaced_type types) soft soft (type_text d) (types_text types) p.0
+          more.0 p.1 more.1 more.1.begins,
+    )

@@ -67,7 +67,8 @@ split (t ∷ used) (m ∷ ms) others e =
 
 -- ---- the words of a grammar
 
-pub Prints-pure : {A V : Type 0} (a : A) (view : A → V) (needs : ℕ → Bool) → ((b : ℕ) → needs b ≡ true → soft b ≡ true) → Prints (rule.pure a) view (view a) needs [] []
+pub Prints-pure : {A V : Type 0} (a : A) (view : A → V) (needs : ℕ → Bool) → ((b : ℕ) → needs b ≡ true → soft b ≡ true)
+    → Prints (rule.pure a) view (view a) needs [] []
 Prints-pure a view needs weak = record {
   weak = weak;
   scan = scanned-none needs;
@@ -76,7 +77,9 @@ Prints-pure a view needs weak = record {
 }
 
 -- the value that was printed stands for the others that look so
-pub Prints-then : {A B V W : Type 0} (r : Rule A) (s : A → Rule B) (view : A → V) (see : B → W) (x : A) (target : V) (goal : W) (needs later : ℕ → Bool) (z w : Text) (marks others : List Mark)
+pub Prints-then :
+    {A B V W : Type 0} (r : Rule A) (s : A → Rule B) (view : A → V) (see : B → W) (x : A) (target : V) (goal : W) (needs later : ℕ → Bool)
+    (z w : Text) (marks others : List Mark)
     → view x ≡ target → Prints r view target needs z marks → ((y : A) → view y ≡ target → Prints (s y) see goal later w others)
     → ((rest : Text) → later (front rest) ≡ true → needs (front (w ++ rest)) ≡ true)
     → Prints (rule.◌>>=◌ r s) see goal later (z ++ w) (marks ++ others)
@@ -92,10 +95,12 @@ Prints-then r s view see x target goal needs later z w marks others is first sec
 }
 
 -- behind what needs no more than what each text begins with
-pub softly : {B W : Type 0} (s : Rule B) (see : B → W) (goal : W) (later : ℕ → Bool) (w : Text) (others : List Mark) → Prints s see goal later w others → (rest : Text) → later (front rest) ≡ true → soft (front (w ++ rest)) ≡ true
+pub softly : {B W : Type 0} (s : Rule B) (see : B → W) (goal : W) (later : ℕ → Bool) (w : Text) (others : List Mark)
+    → Prints s see goal later w others → (rest : Text) → later (front rest) ≡ true → soft (front (w ++ rest)) ≡ true
 softly s see goal later w others p rest may = p.begins rest (p.weak (front rest) may)
 
-pub harder : {A V : Type 0} (r : Rule A) (view : A → V) (target : V) (z : Text) (marks : List Mark) → Prints r view target soft z marks → Prints r view target hard z marks
+pub harder : {A V : Type 0} (r : Rule A) (view : A → V) (target : V) (z : Text) (marks : List Mark) → Prints r view target soft z marks
+    → Prints r view target hard z marks
 harder r view target z marks p = record {
   weak = hard_is_soft;
   scan = record { scan = λ before rest may. p.scan.scan before rest (hard_is_soft (front rest) may) };
@@ -104,8 +109,11 @@ harder r view target z marks p = record {
 }
 
 -- a value is made of another
-pub Prints-made : {A B V W : Type 0} (r : Rule A) (make : A → B) (view : A → V) (see : B → W) (target : V) (goal : W) (needs : ℕ → Bool) (z : Text) (marks : List Mark)
-    → Prints r view target needs z marks → ((y : A) → view y ≡ target → see (make y) ≡ goal) → Prints (rule.◌>>=◌ r (λ y. rule.pure (make y))) see goal needs z marks
+pub Prints-made :
+    {A B V W : Type 0} (r : Rule A) (make : A → B) (view : A → V) (see : B → W) (target : V) (goal : W) (needs : ℕ → Bool) (z : Text)
+    (marks : List Mark)
+    → Prints r view target needs z marks → ((y : A) → view y ≡ target → see (make y) ≡ goal)
+    → Prints (rule.◌>>=◌ r (λ y. rule.pure (make y))) see goal needs z marks
 Prints-made r make view see target goal needs z marks p so = record {
   weak = p.weak;
   scan = p.scan;
@@ -115,7 +123,8 @@ Prints-made r make view see target goal needs z marks p so = record {
       (make a.0, record { front = used; back = []; value = a.0; is = sym (append-nil used); first = a.1; second = (refl, refl) }, so a.0 a.2);
 }
 
-pub Prints-left : {A V : Type 0} (r s : Rule A) (view : A → V) (target : V) (needs : ℕ → Bool) (z : Text) (marks : List Mark) → Prints r view target needs z marks → Prints (rule.◌or◌ r s) view target needs z marks
+pub Prints-left : {A V : Type 0} (r s : Rule A) (view : A → V) (target : V) (needs : ℕ → Bool) (z : Text) (marks : List Mark)
+    → Prints r view target needs z marks → Prints (rule.◌or◌ r s) view target needs z marks
 Prints-left r s view target needs z marks p = record {
   weak = p.weak;
   scan = p.scan;
@@ -123,7 +132,8 @@ Prints-left r s view target needs z marks p = record {
   means = λ used e. let a = p.means used e in (a.0, inl a.1, a.2);
 }
 
-pub Prints-right : {A V : Type 0} (r s : Rule A) (view : A → V) (target : V) (needs : ℕ → Bool) (z : Text) (marks : List Mark) → Prints s view target needs z marks → Prints (rule.◌or◌ r s) view target needs z marks
+pub Prints-right : {A V : Type 0} (r s : Rule A) (view : A → V) (target : V) (needs : ℕ → Bool) (z : Text) (marks : List Mark)
+    → Prints s view target needs z marks → Prints (rule.◌or◌ r s) view target needs z marks
 Prints-right r s view target needs z marks p = record {
   weak = p.weak;
   scan = p.scan;
@@ -141,7 +151,8 @@ Prints-seen r view see target goal needs z marks p so = record {
   means = λ used e. let a = p.means used e in (a.0, a.1, so a.0 a.2);
 }
 
-pub Prints-placed : {A V : Type 0} (r : Rule A) (view : A → V) (target : V) (needs : ℕ → Bool) (z : Text) (marks : List Mark) → Prints r view target needs z marks → Prints (rule.placed r) (λ found. view found.1) target needs z marks
+pub Prints-placed : {A V : Type 0} (r : Rule A) (view : A → V) (target : V) (needs : ℕ → Bool) (z : Text) (marks : List Mark)
+    → Prints r view target needs z marks → Prints (rule.placed r) (λ found. view found.1) target needs z marks
 Prints-placed r view target needs z marks p = record {
   weak = p.weak;
   scan = p.scan;
@@ -151,7 +162,8 @@ Prints-placed r view target needs z marks p = record {
 
 -- ---- lists
 
-pub Prints-no_more : {A V : Type 0} (r : Rule A) (view : A → V) (needs : ℕ → Bool) → ((b : ℕ) → needs b ≡ true → soft b ≡ true) → Prints (rule.many r) (map view) [] needs [] []
+pub Prints-no_more : {A V : Type 0} (r : Rule A) (view : A → V) (needs : ℕ → Bool) → ((b : ℕ) → needs b ≡ true → soft b ≡ true)
+    → Prints (rule.many r) (map view) [] needs [] []
 Prints-no_more r view needs weak = record {
   weak = weak;
   scan = scanned-none needs;
@@ -177,7 +189,8 @@ Prints-more r view target targets needs later z w marks others first more so = r
 -- ---- blanks
 
 -- a blank before
-pub Prints-blank_before : {A V : Type 0} (r : Rule A) (view : A → V) (target : V) (needs : ℕ → Bool) (z : Text) (marks : List Mark) → Prints r view target needs z marks → Prints r view target needs (32 ∷ z) marks
+pub Prints-blank_before : {A V : Type 0} (r : Rule A) (view : A → V) (target : V) (needs : ℕ → Bool) (z : Text) (marks : List Mark)
+    → Prints r view target needs z marks → Prints r view target needs (32 ∷ z) marks
 Prints-blank_before r view target needs z marks p = record {
   weak = p.weak;
   scan = scanned-append no_need needs (32 ∷ []) z [] marks (scanned-blank 32 no_need refl) p.scan (λ rest may. refl);
@@ -186,30 +199,36 @@ Prints-blank_before r view target needs z marks p = record {
 }
 
 -- a blank behind
-pub Prints-blank_behind : {A V : Type 0} (r : Rule A) (view : A → V) (target : V) (needs : ℕ → Bool) (b : ℕ) (z : Text) (marks : List Mark) → is_blank b ≡ true → needs b ≡ true → soft b ≡ true → Prints r view target needs z marks → Prints r view target soft (z ++ b ∷ []) marks
+pub Prints-blank_behind : {A V : Type 0} (r : Rule A) (view : A → V) (target : V) (needs : ℕ → Bool) (b : ℕ) (z : Text) (marks : List Mark)
+    → is_blank b ≡ true → needs b ≡ true → soft b ≡ true → Prints r view target needs z marks → Prints r view target soft (z ++ b ∷ []) marks
 Prints-blank_behind r view target needs b z marks blank may is_soft p = record {
   weak = λ c e. e;
-  scan = subst (Scanned soft (z ++ b ∷ [])) (append-nil marks) (scanned-append needs soft z (b ∷ []) marks [] p.scan (scanned-blank b soft blank) (λ rest any. may));
+  scan =
+      subst (Scanned soft (z ++ b ∷ [])) (append-nil marks)
+      (scanned-append needs soft z (b ∷ []) marks [] p.scan (scanned-blank b soft blank) (λ rest any. may));
   begins = λ rest any. subst (λ l. soft (front l) ≡ true) (sym (append_assoc z (b ∷ []) rest)) (p.begins (b ∷ rest) is_soft);
   means = p.means;
 }
 
 -- ---- single tokens
 
-lexeme_is : (t : Lexeme) (k : TokenKind) (z : Text) (ms : List Mark) (used : List Lexeme) → map mark (t ∷ used) ≡ (k, z) ∷ [] → t ≡ record { kind = k; text = z; place = t.place }
+lexeme_is : (t : Lexeme) (k : TokenKind) (z : Text) (ms : List Mark) (used : List Lexeme) → map mark (t ∷ used) ≡ (k, z) ∷ []
+    → t ≡ record { kind = k; text = z; place = t.place }
 lexeme_is t k z ms used e = let is : mark t ≡ (k, z) = ap (first_mark (k, z)) e in λ i. record { kind = (is i).0; text = (is i).1; place = t.place }
 
 -- what a rule of one token accepts
 abbrev Gives : {A V : Type 0} → (Lexeme → Option A) → (A → V) → V → TokenKind → Text → Type 0
 Gives {A} f view target k z = (place : ℕ) → (y : A) × (f (record { kind = k; text = z; place = place }) ≡ Some y) × (view y ≡ target)
 
-one_means : {A V : Type 0} (f : Lexeme → Option A) (view : A → V) (target : V) (k : TokenKind) (z : Text) → Gives f view target k z → (used : List Lexeme) → map mark used ≡ (k, z) ∷ [] → (y : A) × IsOne f used y × (view y ≡ target)
+one_means : {A V : Type 0} (f : Lexeme → Option A) (view : A → V) (target : V) (k : TokenKind) (z : Text) → Gives f view target k z
+    → (used : List Lexeme) → map mark used ≡ (k, z) ∷ [] → (y : A) × IsOne f used y × (view y ≡ target)
 one_means f view target k z gives [] e = cc
 one_means f view target k z gives (t ∷ used) e =
     let a = gives t.place in
     (a.0, record { token = t; is = ap (λ l. t ∷ l) (no_mark used (ap other_marks e)); gives = ap f (lexeme_is t k z [] used e) ∙ a.1 }, a.2)
 
-pub Prints-one : {A V : Type 0} (f : Lexeme → Option A) (view : A → V) (target : V) (k : TokenKind) (z : Text) (needs : ℕ → Bool) → ((b : ℕ) → needs b ≡ true → soft b ≡ true) → IsToken k z needs → ((rest : Text) → soft (front rest) ≡ true → soft (front (z ++ rest)) ≡ true)
+pub Prints-one : {A V : Type 0} (f : Lexeme → Option A) (view : A → V) (target : V) (k : TokenKind) (z : Text) (needs : ℕ → Bool)
+    → ((b : ℕ) → needs b ≡ true → soft b ≡ true) → IsToken k z needs → ((rest : Text) → soft (front rest) ≡ true → soft (front (z ++ rest)) ≡ true)
     → Gives f view target k z → Prints (rule.one f) view target needs z ((k, z) ∷ [])
 Prints-one f view target k z needs weak token begins gives = record {
   weak = weak;
@@ -219,12 +238,14 @@ Prints-one f view target k z needs weak token begins gives = record {
 }
 
 -- a blank on both sides
-pub Prints-spaced : {A V : Type 0} (f : Lexeme → Option A) (view : A → V) (target : V) (k : TokenKind) (z : Text) (needs : ℕ → Bool) → needs 32 ≡ true → IsToken k z needs
+pub Prints-spaced : {A V : Type 0} (f : Lexeme → Option A) (view : A → V) (target : V) (k : TokenKind) (z : Text) (needs : ℕ → Bool)
+    → needs 32 ≡ true → IsToken k z needs
     → Gives f view target k z → Prints (rule.one f) view target soft (32 ∷ (z ++ 32 ∷ [])) ((k, z) ∷ [])
 Prints-spaced f view target k z needs may token gives = record {
   weak = λ c e. e;
   scan = scanned-append no_need soft (32 ∷ []) (z ++ 32 ∷ []) [] ((k, z) ∷ []) (scanned-blank 32 no_need refl)
-      (scanned-append needs soft z (32 ∷ []) ((k, z) ∷ []) [] (scanned-token k z needs token) (scanned-blank 32 soft refl) (λ rest any. may)) (λ rest any. refl);
+      (scanned-append needs soft z (32 ∷ []) ((k, z) ∷ []) [] (scanned-token k z needs token) (scanned-blank 32 soft refl) (λ rest any. may))
+      (λ rest any. refl);
   begins = λ rest any. refl;
   means = one_means f view target k z gives;
 }
@@ -254,14 +275,18 @@ Prints-keyword z e = Prints-one (only (word z)) unseen tt kind.Word z hard hard_
     (λ place. (tt, only_is (bytes_eq z z) (same_bytes z), refl))
 
 -- a symbol, and then another rule
-pub sign_then : {B W : Type 0} (s : ℕ) (r : Rule B) (see : B → W) (goal : W) (later : ℕ → Bool) (w : Text) (others : List Mark) → is_sign s ≡ true → soft s ≡ true
+pub sign_then : {B W : Type 0} (s : ℕ) (r : Rule B) (see : B → W) (goal : W) (later : ℕ → Bool) (w : Text) (others : List Mark) → is_sign s ≡ true
+    → soft s ≡ true
     → Prints r see goal later w others → Prints (rule.◌>>◌ (rule.sign (s ∷ [])) r) see goal later (s ∷ w) ((kind.Symbol, s ∷ []) ∷ others)
 sign_then s r see goal later w others e f p =
-    Prints-then (rule.sign (s ∷ [])) (λ _. r) unseen see tt tt goal soft later (s ∷ []) w ((kind.Symbol, s ∷ []) ∷ []) others refl (Prints-sign s e f) (λ y is. p) (softly r see goal later w others p)
+    Prints-then (rule.sign (s ∷ [])) (λ _. r) unseen see tt tt goal soft later (s ∷ []) w ((kind.Symbol, s ∷ []) ∷ []) others refl
+    (Prints-sign s e f) (λ y is. p) (softly r see goal later w others p)
 
 -- a symbol at the end
-pub sign_last : {B W : Type 0} (s : ℕ) (b : B) (see : B → W) (goal : W) → is_sign s ≡ true → soft s ≡ true → see b ≡ goal → Prints (rule.◌>>◌ (rule.sign (s ∷ [])) (rule.pure b)) see goal soft (s ∷ []) ((kind.Symbol, s ∷ []) ∷ [])
-sign_last s b see goal e f is = sign_then s (rule.pure b) see goal soft [] [] e f (subst (λ g. Prints (rule.pure b) see g soft [] []) is (Prints-pure b see soft soft_stays))
+pub sign_last : {B W : Type 0} (s : ℕ) (b : B) (see : B → W) (goal : W) → is_sign s ≡ true → soft s ≡ true → see b ≡ goal
+    → Prints (rule.◌>>◌ (rule.sign (s ∷ [])) (rule.pure b)) see goal soft (s ∷ []) ((kind.Symbol, s ∷ []) ∷ [])
+sign_last s b see goal e f is =
+    sign_then s (rule.pure b) see goal soft [] [] e f (subst (λ g. Prints (rule.pure b) see g soft [] []) is (Prints-pure b see soft soft_stays))
 
 -- a word, and then another rule, which begins with no letter
 pub word_then : {B W : Type 0} (z : Text) (r : Rule B) (see : B → W) (goal : W) (later : ℕ → Bool) (w : Text) (others : List Mark) → is_word z ≡ true
@@ -278,9 +303,12 @@ some_is h = cc
 pub softer : (z : Text) → IsToken kind.Literal z no_need → IsToken kind.Literal z soft
 softer z t = record { some = t.some; is = λ rest may. t.is rest refl }
 
-pub Prints-any_word : (name : Name) → is_word name.text ≡ true → Prints (rule.one any_word) unplaced_name (unplaced_name name) hard name.text ((kind.Word, name.text) ∷ [])
+pub Prints-any_word : (name : Name) → is_word name.text ≡ true
+    → Prints (rule.one any_word) unplaced_name (unplaced_name name) hard name.text ((kind.Word, name.text) ∷ [])
 unfolding any_word
-Prints-any_word name e = Prints-one any_word unplaced_name (unplaced_name name) kind.Word name.text hard hard_is_soft (is_token-word name.text e) (λ rest may. word_begins name.text rest e)
+Prints-any_word name e =
+    Prints-one any_word unplaced_name (unplaced_name name) kind.Word name.text hard hard_is_soft (is_token-word name.text e)
+    (λ rest may. word_begins name.text rest e)
     (λ place. (record { text = name.text; place = place }, refl, refl))
 
 name_given : (text : Text) (place : ℕ) → is_name text ≡ true → stage_name_by kind.Literal (literal text) place ≡ Some (record { text = text; place = place })
@@ -288,9 +316,12 @@ name_given text place e =
     let c = content_of-literal text in
     (λ i. cond (is_name (c i)) (Some (record { text = c i; place = place })) None) ∙ ap (λ b. cond b (Some (record { text = text; place = place })) None) e
 
-pub Prints-stage_name : (name : Name) → is_name name.text ≡ true → Prints (rule.one stage_name) unplaced_name (unplaced_name name) soft (literal name.text) ((kind.Literal, literal name.text) ∷ [])
+pub Prints-stage_name : (name : Name) → is_name name.text ≡ true
+    → Prints (rule.one stage_name) unplaced_name (unplaced_name name) soft (literal name.text) ((kind.Literal, literal name.text) ∷ [])
 unfolding stage_name
-Prints-stage_name name e = Prints-one stage_name unplaced_name (unplaced_name name) kind.Literal (literal name.text) soft soft_stays (softer (literal name.text) (is_token-literal name.text)) (λ rest may. refl)
+Prints-stage_name name e =
+    Prints-one stage_name unplaced_name (unplaced_name name) kind.Literal (literal name.text) soft soft_stays
+    (softer (literal name.text) (is_token-literal name.text)) (λ rest may. refl)
     (λ place. (record { text = name.text; place = place }, name_given name.text place e, refl))
 
 pub Prints-number : (n : ℕ) → n ≤ GREATEST_NUMBER → Prints (rule.one number) (λ x. x) n hard (decimal n) ((kind.Number, decimal n) ∷ [])

@@ -79,7 +79,8 @@ pub record Scanned (needs : ℕ → Bool) (z : Text) (marks : List Mark) : Type 
 
 pub scanned-none : (needs : ℕ → Bool) → Scanned needs [] []
 scanned-none needs = record {
-  scan = λ before rest may. let n : length before ≡ length before + 0 = omega arith in ([], ap (λ p. tokens_from p 0 rest) n ∙ sym (with_front-none (tokens_from (length before + 0) 0 rest)), refl);
+  scan = λ before rest may. let n : length before ≡ length before + 0 = omega arith in
+      ([], ap (λ p. tokens_from p 0 rest) n ∙ sym (with_front-none (tokens_from (length before + 0) 0 rest)), refl);
 }
 
 pub map-append : {X Y : Type 0} (f : X → Y) (xs ys : List X) → map f (xs ++ ys) ≡ map f xs ++ map f ys
@@ -105,7 +106,8 @@ scanned-append needs later z w marks others first second so = record {
             ∙ with_front-append a.0 b.0 (tokens_from (length (before ++ z) + length w) 0 rest)
             ∙ ap (λ p. with_front (a.0 ++ b.0) (tokens_from p 0 rest)) end,
         map-append (λ t. mark (lexeme_of (before ++ ((z ++ w) ++ rest)) t)) a.0 b.0
-            ∙ (λ i. map (λ t. mark (lexeme_of (before ++ sym text i) t)) a.0 ++ map (λ t. mark (lexeme_of ((ap (λ u. before ++ u) (sym text) ∙ sym whole) i) t)) b.0)
+            ∙ (λ i. map (λ t. mark (lexeme_of (before ++ sym text i) t)) a.0
+            ++ map (λ t. mark (lexeme_of ((ap (λ u. before ++ u) (sym text) ∙ sym whole) i) t)) b.0)
             ∙ (λ i. a.2 i ++ b.2 i),
       );
 }

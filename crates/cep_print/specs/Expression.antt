@@ -1,5 +1,7 @@
--- The text of an expression: one space on both sides of a binary operator, none behind `!` and `-`, and parentheses round an operand exactly where its level isn't above the level of the node it stands in. This is this project's own.
--- The parts of an expression stand in rows: `end_of-SynExpr` is the empty row, `more_of-SynExpr place node parts` has an expression before the others, and the sign `_` before a row is its shape, which says nothing of the parts.
+-- The text of an expression: one space on both sides of a binary operator, none behind `!` and `-`, and parentheses round an operand exactly where
+-- its level isn't above the level of the node it stands in. This is this project's own.
+-- The parts of an expression stand in rows: `end_of-SynExpr` is the empty row, `more_of-SynExpr place node parts` has an expression before the
+-- others, and the sign `_` before a row is its shape, which says nothing of the parts.
 use Rattle.std.specs.Prelude.{ℕ, Bool, if◌then◌else◌, nat_lt, List, [], ◌∷◌, ◌++◌, flat_map, codes, decimal}
 use Rattle.cep_expression.specs.declared.expr.Agg.{Agg}
 use Rattle.cep_expression.specs.declared.expr.Agg.TheVariants as agg

@@ -43,7 +43,8 @@ record AtEnds (z : List ℕ) : Type 0 where
 by_bytes : (p : ℕ → Bool) (b : ℕ) (z : List ℕ) → ((c : ℕ) → p c ≡ true → c < 128) → list_all p (b ∷ z) ≡ true → AtEnds (b ∷ z)
 by_bytes p b z low e = record { first = low b (passes_at p (b ∷ z) 0 e (omega arith)); last = low _ (passes_at p (b ∷ z) (length (b ∷ z) - 1) e (omega arith)) }
 
-symbol_ends : (z : List ℕ) (one two : Bool) → (length z == 1) && is_single (get_or z 0 0) ≡ one → (length z == 2) && is_pair (get_or z 0 0) (get_or z 1 0) ≡ two → one || two ≡ true → AtEnds z
+symbol_ends : (z : List ℕ) (one two : Bool) → (length z == 1) && is_single (get_or z 0 0) ≡ one
+    → (length z == 2) && is_pair (get_or z 0 0) (get_or z 1 0) ≡ two → one || two ≡ true → AtEnds z
 symbol_ends z true two e f h =
     let k = and_true (length z == 1) (is_single (get_or z 0 0)) e in
     let low = single_low (get_or z 0 0) k.1 in

@@ -12,7 +12,9 @@ use Rattle.cep_reading.proofs.Laws.{Sound, Sound-pure, Sound-one, Sound-then, So
 use Rattle.cep_reading.proofs.Starts.{Avoids, starts-then, starts-word}
 use Rattle.cep_reading.proofs.Quiet.{Quiet, Quiet-pure, Quiet-one, Quiet-then, Quiet-choose, Quiet-many, Quiet-placed}
 
--- The reader with the number n, of which it spends at most as many as `lasts` says: what it reads is in the rule to the depth of one more; what the rule says to any depth it reads, before a token that may not go on; it agrees with the readers of other numbers; and, where it is calm, it never stops at `greedy`.
+-- The reader with the number n, of which it spends at most as many as `lasts` says: what it reads is in the rule to the depth of one more; what the
+-- rule says to any depth it reads, before a token that may not go on; it agrees with the readers of other numbers; and, where it is calm, it never
+-- stops at `greedy`.
 pub record Exact (calm : Bool) (n l : ℕ) {A : Type 0} (r : ℕ → Rule A) (p : ℕ → Reader A) (after : Lexeme → Bool) : Type 0 where
   pub sound : Sound (p n) (r (suc n))
   pub complete : (k : ℕ) → Complete (r k) (p n) after
@@ -29,15 +31,34 @@ stops_nothing (t ∷ l) = refl
 
 module _ {q : Bool} {n l : ℕ} where
   pub Exact-pure : {A : Type 0} (a : A) (after : Lexeme → Bool) → Exact q n l (λ _. rule.pure a) (λ _. read.pure a) after
-  Exact-pure a after = record { sound = Sound-pure a; complete = λ k. Complete-pure a after; agrees = λ m. Agrees-pure a; lasts = Lasts-pure l a; quiet = λ _. Quiet-pure a }
+  Exact-pure a after =
+      record {
+        sound = Sound-pure a;
+        complete = λ k. Complete-pure a after;
+        agrees = λ m. Agrees-pure a;
+        lasts = Lasts-pure l a;
+        quiet =
+            λ _. Quiet-pure a;
+      }
 
-  pub Exact-one : {A : Type 0} (f : Lexeme → Option A) (t : Lexeme) (a : A) (after : Lexeme → Bool) → f t ≡ Some a → Exact q n l (λ _. rule.one f) (λ _. read.one f) after
-  Exact-one f t a after e = record { sound = Sound-one f t a e; complete = λ k. Complete-one f after; agrees = λ m. Agrees-one f; lasts = Lasts-one l f; quiet = λ _. Quiet-one f }
+  pub Exact-one : {A : Type 0} (f : Lexeme → Option A) (t : Lexeme) (a : A) (after : Lexeme → Bool) → f t ≡ Some a
+      → Exact q n l (λ _. rule.one f) (λ _. read.one f) after
+  Exact-one f t a after e =
+      record {
+        sound = Sound-one f t a e;
+        complete = λ k. Complete-one f after;
+        agrees = λ m. Agrees-one f;
+        lasts = Lasts-one l f;
+        quiet =
+            λ _. Quiet-one f;
+      }
 
-  pub exact-symbol : (text : List ℕ) (after : Lexeme → Bool) → only (symbol text) (record { kind = token.Symbol; text = text; place = 0 }) ≡ Some tt → Exact q n l (λ _. rule.sign text) (λ _. read.sign text) after
+  pub exact-symbol : (text : List ℕ) (after : Lexeme → Bool) → only (symbol text) (record { kind = token.Symbol; text = text; place = 0 }) ≡ Some tt
+      → Exact q n l (λ _. rule.sign text) (λ _. read.sign text) after
   exact-symbol text after e = Exact-one (only (symbol text)) (record { kind = token.Symbol; text = text; place = 0 }) tt after e
 
-  pub exact-word : (text : List ℕ) (after : Lexeme → Bool) → only (word text) (record { kind = token.Word; text = text; place = 0 }) ≡ Some tt → Exact q n l (λ _. rule.keyword text) (λ _. read.keyword text) after
+  pub exact-word : (text : List ℕ) (after : Lexeme → Bool) → only (word text) (record { kind = token.Word; text = text; place = 0 }) ≡ Some tt
+      → Exact q n l (λ _. rule.keyword text) (λ _. read.keyword text) after
   exact-word text after e = Exact-one (only (word text)) (record { kind = token.Word; text = text; place = 0 }) tt after e
 
   pub Exact-then : {A B : Type 0} (r : ℕ → Rule A) (s : ℕ → A → Rule B) (p : ℕ → Reader A) (u : ℕ → A → Reader B) (between after : Lexeme → Bool)
@@ -67,13 +88,16 @@ module _ {q : Bool} {n l : ℕ} where
 
   -- a first part of which nothing need be known to stop
   pub Exact-last : {A B : Type 0} (r : ℕ → Rule A) (s : ℕ → A → Rule B) (p : ℕ → Reader A) (u : ℕ → A → Reader B) (after : Lexeme → Bool)
-      → Exact q n l r p nothing → ((a : A) → Exact q n l (λ k. s k a) (λ m. u m a) after) → Exact q n l (λ k. rule.◌>>=◌ (r k) (s k)) (λ m. read.◌>>=◌ (p m) (u m)) after
+      → Exact q n l r p nothing → ((a : A) → Exact q n l (λ k. s k a) (λ m. u m a) after)
+      → Exact q n l (λ k. rule.◌>>=◌ (r k) (s k)) (λ m. read.◌>>=◌ (p m) (u m)) after
   Exact-last r s p u after first second = Exact-then r s p u nothing after first second (λ k a b back rest h stops. stops_nothing (back ++ rest))
 
   -- the same, where the first takes some token
   pub Exact-last_after : {A B : Type 0} (r : ℕ → Rule A) (s : ℕ → A → Rule B) (p : ℕ → Reader A) (u : ℕ → A → Reader B) (after : Lexeme → Bool)
-      → TakesSome (r (suc n)) → Exact q n (suc l) r p nothing → ((a : A) → Exact q n l (λ k. s k a) (λ m. u m a) after) → Exact q n (suc l) (λ k. rule.◌>>=◌ (r k) (s k)) (λ m. read.◌>>=◌ (p m) (u m)) after
-  Exact-last_after r s p u after some first second = Exact-after r s p u nothing after some first second (λ k a b back rest h stops. stops_nothing (back ++ rest))
+      → TakesSome (r (suc n)) → Exact q n (suc l) r p nothing → ((a : A) → Exact q n l (λ k. s k a) (λ m. u m a) after)
+      → Exact q n (suc l) (λ k. rule.◌>>=◌ (r k) (s k)) (λ m. read.◌>>=◌ (p m) (u m)) after
+  Exact-last_after r s p u after some first second =
+      Exact-after r s p u nothing after some first second (λ k a b back rest h stops. stops_nothing (back ++ rest))
 
   -- a part that stops before a token that begins the next
   pub Exact-before : {A B : Type 0} (r : ℕ → Rule A) (s : ℕ → A → Rule B) (p : ℕ → Reader A) (u : ℕ → A → Reader B) (between after P : Lexeme → Bool)
@@ -91,7 +115,8 @@ module _ {q : Bool} {n l : ℕ} where
   Exact-made f r p after exact =
       Exact-then r _ p _ after after exact (λ a. Exact-pure (f a) after) (λ k a b back rest h stops. subst (λ ts. Stops after (ts ++ rest)) (sym h.0) stops)
 
-  pub Exact-choose : {A : Type 0} (first : Lexeme → Bool) (r s : ℕ → Rule A) (p u : ℕ → Reader A) (after : Lexeme → Bool) → Exact q n l r p after → Exact q n l s u after
+  pub Exact-choose : {A : Type 0} (first : Lexeme → Bool) (r s : ℕ → Rule A) (p u : ℕ → Reader A) (after : Lexeme → Bool) → Exact q n l r p after
+      → Exact q n l s u after
       → ((k : ℕ) → StartsWith (r k) first) → ((k : ℕ) (used rest : Left) (a : A) → s k used a → Stops after rest → Stops first (used ++ rest))
       → Exact q n l (λ k. rule.◌or◌ (r k) (s k)) (λ m. read.choose first (p m) (u m)) after
   Exact-choose first r s p u after one other starts avoids = record {
@@ -103,7 +128,8 @@ module _ {q : Bool} {n l : ℕ} where
   }
 
   -- a word and what comes behind it, or another alternative, which does not begin with that word
-  pub Exact-branch : {A : Type 0} (text : List ℕ) (r s : ℕ → Rule A) (p u : ℕ → Reader A) (after : Lexeme → Bool) → only (word text) (record { kind = token.Word; text = text; place = 0 }) ≡ Some tt
+  pub Exact-branch : {A : Type 0} (text : List ℕ) (r s : ℕ → Rule A) (p u : ℕ → Reader A) (after : Lexeme → Bool)
+      → only (word text) (record { kind = token.Word; text = text; place = 0 }) ≡ Some tt
       → Exact q n l r p after → Exact q n l s u after → ((k : ℕ) → Avoids (s k) (word text))
       → Exact q n l (λ k. rule.branch text (r k) (s k)) (λ m. read.branch text (p m) (u m)) after
   Exact-branch text r s p u after e one other avoids =
@@ -111,14 +137,16 @@ module _ {q : Bool} {n l : ℕ} where
       (λ k. starts-then _ _ (word text) (starts-word text)) (λ k used rest a h stops. (avoids k).stops used rest a h)
 
   -- the rule or nothing
-  pub Exact-maybe : {A : Type 0} (first : Lexeme → Bool) (r : ℕ → Rule A) (p : ℕ → Reader A) (after : Lexeme → Bool) → Exact q n l r p after → ((k : ℕ) → StartsWith (r k) first)
+  pub Exact-maybe : {A : Type 0} (first : Lexeme → Bool) (r : ℕ → Rule A) (p : ℕ → Reader A) (after : Lexeme → Bool) → Exact q n l r p after
+      → ((k : ℕ) → StartsWith (r k) first)
       → ((ts : Left) → Stops after ts → Stops first ts)
       → Exact q n l (λ k. rule.maybe (r k)) (λ m. read.choose first (read.◌>>=◌ (p m) (λ a. read.pure (Some a))) (read.pure None)) after
   Exact-maybe first r p after exact starts quits =
       Exact-choose first _ _ _ _ after (Exact-made Some r p after exact) (Exact-pure None after)
       (λ k. starts-then (r k) _ first (starts k)) (λ k used rest a h stops. subst (λ ts. Stops first (ts ++ rest)) (sym h.0) (quits rest stops))
 
-  pub Exact-placed : {A : Type 0} (r : ℕ → Rule A) (p : ℕ → Reader A) (after : Lexeme → Bool) → ((k : ℕ) → TakesSome (r k)) → Exact q n l r p after → Exact q n l (λ k. rule.placed (r k)) (λ m. read.placed (p m)) after
+  pub Exact-placed : {A : Type 0} (r : ℕ → Rule A) (p : ℕ → Reader A) (after : Lexeme → Bool) → ((k : ℕ) → TakesSome (r k)) → Exact q n l r p after
+      → Exact q n l (λ k. rule.placed (r k)) (λ m. read.placed (p m)) after
   Exact-placed r p after some exact = record {
     sound = Sound-placed (p n) (r (suc n)) (some (suc n)) exact.sound;
     complete = λ k. Complete-placed (p n) (r k) after (some k) (exact.complete k);
@@ -128,7 +156,8 @@ module _ {q : Bool} {n l : ℕ} where
   }
 
   -- the same rule in other words
-  pub Exact-same : {A : Type 0} (r s : ℕ → Rule A) (p : ℕ → Reader A) (after : Lexeme → Bool) → ((k : ℕ) (used : Left) (a : A) → r k used a → s k used a) → ((k : ℕ) (used : Left) (a : A) → s k used a → r k used a)
+  pub Exact-same : {A : Type 0} (r s : ℕ → Rule A) (p : ℕ → Reader A) (after : Lexeme → Bool)
+      → ((k : ℕ) (used : Left) (a : A) → r k used a → s k used a) → ((k : ℕ) (used : Left) (a : A) → s k used a → r k used a)
       → Exact q n l r p after → Exact q n l s p after
   Exact-same r s p after to from exact = record {
     sound = Sound-wider (p n) (r (suc n)) (s (suc n)) (to (suc n)) exact.sound;
@@ -139,7 +168,8 @@ module _ {q : Bool} {n l : ℕ} where
   }
 
   -- where more may stop it
-  pub Exact-narrower : {A : Type 0} (r : ℕ → Rule A) (p : ℕ → Reader A) (after more : Lexeme → Bool) → Exact q n l r p after → ((ts : Left) → Stops more ts → Stops after ts) → Exact q n l r p more
+  pub Exact-narrower : {A : Type 0} (r : ℕ → Rule A) (p : ℕ → Reader A) (after more : Lexeme → Bool) → Exact q n l r p after
+      → ((ts : Left) → Stops more ts → Stops after ts) → Exact q n l r p more
   Exact-narrower r p after more exact so = record {
     sound = exact.sound;
     complete = λ k. record { reads = λ used rest a h stops. (exact.complete k).reads used rest a h (so rest stops) };
@@ -157,9 +187,11 @@ module _ {q : Bool} {n l : ℕ} where
     quiet = exact.quiet;
   }
 
-pub Exact-many : {q : Bool} {n : ℕ} {A : Type 0} (first : Lexeme → Bool) (r : ℕ → Rule A) (p : ℕ → Reader A) (between after : Lexeme → Bool) → Exact q n n r p between
+pub Exact-many : {q : Bool} {n : ℕ} {A : Type 0} (first : Lexeme → Bool) (r : ℕ → Rule A) (p : ℕ → Reader A) (between after : Lexeme → Bool)
+    → Exact q n n r p between
     → ((k : ℕ) → TakesSome (r k)) → ((k : ℕ) → StartsWith (r k) first)
-    → ((ts : Left) → next_is first ts ≡ true → Stops between ts) → ((ts : Left) → Stops after ts → Stops between ts) → ((ts : Left) → Stops after ts → Stops first ts)
+    → ((ts : Left) → next_is first ts ≡ true → Stops between ts) → ((ts : Left) → Stops after ts → Stops between ts)
+    → ((ts : Left) → Stops after ts → Stops first ts)
     → Exact q n n (λ k. rule.many (r k)) (λ m. read.many m first (p m)) after
 Exact-many {q} {n} first r p between after item some starts goes ends quits = record {
   sound = Sound-many n first (p n) (r (suc n)) item.sound;

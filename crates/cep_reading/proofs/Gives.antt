@@ -22,10 +22,12 @@ pub record Gives {A : Type 0} (r : Rule A) (P : A → Bool) : Type 0 where
 pub Gives-pure : {A : Type 0} (a : A) (P : A → Bool) → P a ≡ true → Gives (rule.pure a) P
 Gives-pure a P e = record { gives = λ used b formed h. ap P h.1 ∙ e }
 
-pub Gives-one : {A : Type 0} (f : Lexeme → Option A) (P : A → Bool) → ((t : Lexeme) (a : A) → has_form t ≡ true → f t ≡ Some a → P a ≡ true) → Gives (rule.one f) P
+pub Gives-one : {A : Type 0} (f : Lexeme → Option A) (P : A → Bool) → ((t : Lexeme) (a : A) → has_form t ≡ true → f t ≡ Some a → P a ≡ true)
+    → Gives (rule.one f) P
 Gives-one f P so = record { gives = λ used a formed h. so h.token a (and_true (has_form h.token) true (sym (ap (list_all has_form) h.is) ∙ formed)).0 h.gives }
 
-pub Gives-then : {A B : Type 0} (r : Rule A) (s : A → Rule B) (Q : A → Bool) (P : B → Bool) → Gives r Q → ((a : A) → Q a ≡ true → Gives (s a) P) → Gives (rule.◌>>=◌ r s) P
+pub Gives-then : {A B : Type 0} (r : Rule A) (s : A → Rule B) (Q : A → Bool) (P : B → Bool) → Gives r Q → ((a : A) → Q a ≡ true → Gives (s a) P)
+    → Gives (rule.◌>>=◌ r s) P
 Gives-then r s Q P first second = record {
   gives = λ used b formed h.
       let parts = and_true (list_all has_form h.front) (list_all has_form h.back) (sym (list_all-append has_form h.front h.back) ∙ sym (ap (list_all has_form) h.is) ∙ formed) in
@@ -58,7 +60,8 @@ of_some P None = true
 of_some P (Some a) = P a
 
 pub Gives-maybe : {A : Type 0} (r : Rule A) (P : A → Bool) → Gives r P → Gives (rule.maybe r) (of_some P)
-Gives-maybe r P gives = Gives-or _ _ (of_some P) (Gives-then r _ P (of_some P) gives (λ a e. Gives-pure (Some a) (of_some P) e)) (Gives-pure None (of_some P) refl)
+Gives-maybe r P gives =
+    Gives-or _ _ (of_some P) (Gives-then r _ P (of_some P) gives (λ a e. Gives-pure (Some a) (of_some P) e)) (Gives-pure None (of_some P) refl)
 
 -- ---- how many tokens
 
@@ -68,7 +71,8 @@ pub record Takes {A : Type 0} (r : Rule A) (c : A → ℕ) : Type 0 where
 pub Takes-one : {A : Type 0} (f : Lexeme → Option A) → Takes (rule.one f) (λ _. 1)
 Takes-one f = record { least = λ used a h. omega (arith, ap length h.is) }
 
-pub Takes-then : {A B : Type 0} (r : Rule A) (s : A → Rule B) (c : A → ℕ) (d : A → B → ℕ) (e : B → ℕ) → Takes r c → ((a : A) → Takes (s a) (d a)) → ((a : A) (b : B) (used : Left) → s a used b → e b ≤ c a + d a b) → Takes (rule.◌>>=◌ r s) e
+pub Takes-then : {A B : Type 0} (r : Rule A) (s : A → Rule B) (c : A → ℕ) (d : A → B → ℕ) (e : B → ℕ) → Takes r c → ((a : A) → Takes (s a) (d a))
+    → ((a : A) (b : B) (used : Left) → s a used b → e b ≤ c a + d a b) → Takes (rule.◌>>=◌ r s) e
 Takes-then r s c d e first second so = record {
   least = λ used b h.
       let one = first.least h.front h.value h.first in
@@ -82,9 +86,11 @@ Takes-then r s c d e first second so = record {
 pub all_formed : (text : List ℕ) (tokens : List Token) → All (IsWithin text) tokens → list_all has_form (map (lexeme_of text) tokens) ≡ true
 all_formed text [] h = refl
 all_formed text (token ∷ tokens) h =
-    both_true (has_form (lexeme_of text token)) (list_all has_form (map (lexeme_of text) tokens)) (h 0 token (omega arith)).formed (all_formed text tokens (λ k d lt. h (suc k) d (omega arith)))
+    both_true (has_form (lexeme_of text token)) (list_all has_form (map (lexeme_of text) tokens)) (h 0 token (omega arith)).formed
+    (all_formed text tokens (λ k d lt. h (suc k) d (omega arith)))
 
-pub few_tokens : (text : List ℕ) (place : ℕ) (tokens : List Token) → AreInOrder place tokens → All (IsWithin text) tokens → place ≤ length text → place + length tokens ≤ length text
+pub few_tokens : (text : List ℕ) (place : ℕ) (tokens : List Token) → AreInOrder place tokens → All (IsWithin text) tokens → place ≤ length text
+    → place + length tokens ≤ length text
 few_tokens text place [] order within h = omega arith
 few_tokens text place (token ∷ tokens) order within h =
     let here = within 0 token (omega arith) in

@@ -28,7 +28,8 @@ pub and_then_ok : {A B : Type 0} (o : Outcome A) (f : A → Reader B) (b : B) (r
 and_then_ok (Ok found) f b rest e = record { value = found.0; mid = found.1; was = refl; gives = e }
 and_then_ok (Err stop) f b rest e = cc
 
-pub and_then_err : {A B : Type 0} (o : Outcome A) (f : A → Reader B) (why : Stop) (rest : Left) → and_then o f ≡ Err (why, rest) → (o ≡ Err (why, rest)) ⊎ IsThen o f (Err (why, rest))
+pub and_then_err : {A B : Type 0} (o : Outcome A) (f : A → Reader B) (why : Stop) (rest : Left) → and_then o f ≡ Err (why, rest)
+    → (o ≡ Err (why, rest)) ⊎ IsThen o f (Err (why, rest))
 and_then_err (Ok found) f why rest e = inr (record { value = found.0; mid = found.1; was = refl; gives = e })
 and_then_err (Err stop) f why rest e = inl (ap Err (err_value e))
 
@@ -92,13 +93,19 @@ Sound-one {A} f t a e = record { ok = right; stuck = wrong; some = word } where
   wrong [] rest why h = record { used = []; is = ap (λ p. p.1) (err_value h); holds = record { more = t ∷ []; value = a; holds = word.holds } }
   wrong (u ∷ ts) rest why h = record { used = []; is = (taken_err u ts rest why (f u) h).0; holds = record { more = t ∷ []; value = a; holds = word.holds } }
 
-pub Sound-then : {A B : Type 0} (p : Reader A) (q : A → Reader B) (r : Rule A) (s : A → Rule B) → Sound p r → ((a : A) → Sound (q a) (s a)) → Sound (read.◌>>=◌ p q) (rule.◌>>=◌ r s)
+pub Sound-then : {A B : Type 0} (p : Reader A) (q : A → Reader B) (r : Rule A) (s : A → Rule B) → Sound p r → ((a : A) → Sound (q a) (s a))
+    → Sound (read.◌>>=◌ p q) (rule.◌>>=◌ r s)
 Sound-then {A} {B} p q r s first second = record { ok = right; stuck = wrong; some = word } where
   word : Word (InTurn r s)
   word =
       let w = first.some in
       let v = (second w.value).some in
-      record { used = w.used ++ v.used; value = v.value; holds = record { front = w.used; back = v.used; value = w.value; is = refl; first = w.holds; second = v.holds } }
+      record {
+        used = w.used ++ v.used;
+        value = v.value;
+        holds =
+            record { front = w.used; back = v.used; value = w.value; is = refl; first = w.holds; second = v.holds };
+      }
 
   right : (ts rest : Left) (b : B) → and_then (p ts) q ≡ Ok (b, rest) → Split ts rest (λ used. InTurn r s used b)
   right ts rest b e =
@@ -123,7 +130,16 @@ Sound-then {A} {B} p q r s first second = record { ok = right; stuck = wrong; so
           holds = record {
             more = x.holds.more ++ w.used;
             value = w.value;
-            holds = record { front = x.used ++ x.holds.more; back = w.used; value = x.holds.value; is = simp append_assoc; first = x.holds.holds; second = w.holds };
+            holds =
+                record {
+                  front = x.used ++ x.holds.more;
+                  back = w.used;
+                  value = x.holds.value;
+                  is = simp append_assoc;
+                  first =
+                      x.holds.holds;
+                  second = w.holds;
+                };
           };
         }
     cases (inr k) =
@@ -140,22 +156,25 @@ Sound-then {A} {B} p q r s first second = record { ok = right; stuck = wrong; so
         }
 
 pub Sound-choose : {A : Type 0} (first : Lexeme → Bool) (p q : Reader A) (r s : Rule A) → Sound p r → Sound q s → Sound (read.choose first p q) (rule.◌or◌ r s)
-Sound-choose {A} first p q r s one other = record { ok = right; stuck = wrong; some = record { used = one.some.used; value = one.some.value; holds = inl one.some.holds } } where
-  right : (ts rest : Left) (a : A) → cond (next_is first ts) (p ts) (q ts) ≡ Ok (a, rest) → Split ts rest (λ used. rule.◌or◌ r s used a)
-  right ts rest a e = cases (chosen (next_is first ts) (p ts) (q ts) (Ok (a, rest)) e) where
-    cases : ((next_is first ts ≡ true) × (p ts ≡ Ok (a, rest))) ⊎ ((next_is first ts ≡ false) × (q ts ≡ Ok (a, rest))) → Split ts rest (λ used. rule.◌or◌ r s used a)
-    cases (inl h) = let x = one.ok ts rest a h.1 in record { used = x.used; is = x.is; holds = inl x.holds }
-    cases (inr h) = let x = other.ok ts rest a h.1 in record { used = x.used; is = x.is; holds = inr x.holds }
+Sound-choose {A} first p q r s one other =
+    record { ok = right; stuck = wrong; some = record { used = one.some.used; value = one.some.value; holds = inl one.some.holds } } where
+      right : (ts rest : Left) (a : A) → cond (next_is first ts) (p ts) (q ts) ≡ Ok (a, rest) → Split ts rest (λ used. rule.◌or◌ r s used a)
+      right ts rest a e = cases (chosen (next_is first ts) (p ts) (q ts) (Ok (a, rest)) e) where
+        cases : ((next_is first ts ≡ true) × (p ts ≡ Ok (a, rest))) ⊎ ((next_is first ts ≡ false) × (q ts ≡ Ok (a, rest)))
+            → Split ts rest (λ used. rule.◌or◌ r s used a)
+        cases (inl h) = let x = one.ok ts rest a h.1 in record { used = x.used; is = x.is; holds = inl x.holds }
+        cases (inr h) = let x = other.ok ts rest a h.1 in record { used = x.used; is = x.is; holds = inr x.holds }
 
-  wrong : (ts rest : Left) (why : Stop) → cond (next_is first ts) (p ts) (q ts) ≡ Err (why, rest) → Split ts rest (Begins (rule.◌or◌ r s))
-  wrong ts rest why e = cases (chosen (next_is first ts) (p ts) (q ts) (Err (why, rest)) e) where
-    cases : ((next_is first ts ≡ true) × (p ts ≡ Err (why, rest))) ⊎ ((next_is first ts ≡ false) × (q ts ≡ Err (why, rest))) → Split ts rest (Begins (rule.◌or◌ r s))
-    cases (inl h) =
-        let x = one.stuck ts rest why h.1 in
-        record { used = x.used; is = x.is; holds = record { more = x.holds.more; value = x.holds.value; holds = inl x.holds.holds } }
-    cases (inr h) =
-        let x = other.stuck ts rest why h.1 in
-        record { used = x.used; is = x.is; holds = record { more = x.holds.more; value = x.holds.value; holds = inr x.holds.holds } }
+      wrong : (ts rest : Left) (why : Stop) → cond (next_is first ts) (p ts) (q ts) ≡ Err (why, rest) → Split ts rest (Begins (rule.◌or◌ r s))
+      wrong ts rest why e = cases (chosen (next_is first ts) (p ts) (q ts) (Err (why, rest)) e) where
+        cases : ((next_is first ts ≡ true) × (p ts ≡ Err (why, rest))) ⊎ ((next_is first ts ≡ false) × (q ts ≡ Err (why, rest)))
+            → Split ts rest (Begins (rule.◌or◌ r s))
+        cases (inl h) =
+            let x = one.stuck ts rest why h.1 in
+            record { used = x.used; is = x.is; holds = record { more = x.holds.more; value = x.holds.value; holds = inl x.holds.holds } }
+        cases (inr h) =
+            let x = other.stuck ts rest why h.1 in
+            record { used = x.used; is = x.is; holds = record { more = x.holds.more; value = x.holds.value; holds = inr x.holds.holds } }
 
 -- a rule that says more
 pub Sound-wider : {A : Type 0} (p : Reader A) (r s : Rule A) → ((used : Left) (a : A) → r used a → s used a) → Sound p r → Sound p s
@@ -163,7 +182,12 @@ Sound-wider p r s wider sound = record {
   ok = λ ts rest a e. let x = sound.ok ts rest a e in record { used = x.used; is = x.is; holds = wider x.used a x.holds };
   stuck = λ ts rest why e.
       let x = sound.stuck ts rest why e in
-      record { used = x.used; is = x.is; holds = record { more = x.holds.more; value = x.holds.value; holds = wider (x.used ++ x.holds.more) x.holds.value x.holds.holds } };
+      record {
+        used = x.used;
+        is = x.is;
+        holds =
+            record { more = x.holds.more; value = x.holds.value; holds = wider (x.used ++ x.holds.more) x.holds.value x.holds.holds };
+      };
   some = record { used = sound.some.used; value = sound.some.value; holds = wider sound.some.used sound.some.value sound.some.holds };
 }
 
@@ -203,27 +227,38 @@ pub takes_some : {A : Type 0} (r : Rule A) (used : Left) (a : A) → TakesSome r
 takes_some r used a some h e = some.never a (subst (λ l. r l a) e h)
 
 pub Sound-placed : {A : Type 0} (p : Reader A) (r : Rule A) → TakesSome r → Sound p r → Sound (read.placed p) (rule.placed r)
-Sound-placed {A} p r some sound = record { ok = right; stuck = wrong; some = record { used = sound.some.used; value = (place_of sound.some.used, sound.some.value); holds = (sound.some.holds, refl) } } where
-  right : (ts rest : Left) (a : ℕ × A) → and_then (p ts) (read.located (place_of ts)) ≡ Ok (a, rest) → Split ts rest (λ used. rule.placed r used a)
-  right ts rest a e =
-      let k = and_then_ok (p ts) (read.located (place_of ts)) a rest e in
-      let x = sound.ok ts k.mid k.value k.was in
-      let found = ok_value k.gives in
-      let found_is = ap (λ f. f.0) found in
-      let place_is : place_of ts ≡ place_of x.used = ap place_of x.is ∙ place_of-front x.used k.mid (takes_some r x.used k.value some x.holds) in
-      record {
-        used = x.used;
-        is = x.is ∙ ap (λ l. x.used ++ l) (ap (λ f. f.1) found);
-        holds = (subst (r x.used) (ap (λ f. f.1) found_is) x.holds, sym (ap (λ f. f.0) found_is) ∙ place_is);
-      }
+Sound-placed {A} p r some sound =
+    record {
+      ok = right;
+      stuck = wrong;
+      some =
+          record { used = sound.some.used; value = (place_of sound.some.used, sound.some.value); holds = (sound.some.holds, refl) };
+    } where
+      right : (ts rest : Left) (a : ℕ × A) → and_then (p ts) (read.located (place_of ts)) ≡ Ok (a, rest) → Split ts rest (λ used. rule.placed r used a)
+      right ts rest a e =
+          let k = and_then_ok (p ts) (read.located (place_of ts)) a rest e in
+          let x = sound.ok ts k.mid k.value k.was in
+          let found = ok_value k.gives in
+          let found_is = ap (λ f. f.0) found in
+          let place_is : place_of ts ≡ place_of x.used = ap place_of x.is ∙ place_of-front x.used k.mid (takes_some r x.used k.value some x.holds) in
+          record {
+            used = x.used;
+            is = x.is ∙ ap (λ l. x.used ++ l) (ap (λ f. f.1) found);
+            holds = (subst (r x.used) (ap (λ f. f.1) found_is) x.holds, sym (ap (λ f. f.0) found_is) ∙ place_is);
+          }
 
-  wrong : (ts rest : Left) (why : Stop) → and_then (p ts) (read.located (place_of ts)) ≡ Err (why, rest) → Split ts rest (Begins (rule.placed r))
-  wrong ts rest why e = cases (and_then_err (p ts) (read.located (place_of ts)) why rest e) where
-    cases : (p ts ≡ Err (why, rest)) ⊎ IsThen (p ts) (read.located (place_of ts)) (Err (why, rest)) → Split ts rest (Begins (rule.placed r))
-    cases (inl h) =
-        let x = sound.stuck ts rest why h in
-        record { used = x.used; is = x.is; holds = record { more = x.holds.more; value = (place_of (x.used ++ x.holds.more), x.holds.value); holds = (x.holds.holds, refl) } }
-    cases (inr k) = let bad = k.gives in cc
+      wrong : (ts rest : Left) (why : Stop) → and_then (p ts) (read.located (place_of ts)) ≡ Err (why, rest) → Split ts rest (Begins (rule.placed r))
+      wrong ts rest why e = cases (and_then_err (p ts) (read.located (place_of ts)) why rest e) where
+        cases : (p ts ≡ Err (why, rest)) ⊎ IsThen (p ts) (read.located (place_of ts)) (Err (why, rest)) → Split ts rest (Begins (rule.placed r))
+        cases (inl h) =
+            let x = sound.stuck ts rest why h in
+            record {
+              used = x.used;
+              is = x.is;
+              holds =
+                  record { more = x.holds.more; value = (place_of (x.used ++ x.holds.more), x.holds.value); holds = (x.holds.holds, refl) };
+            }
+        cases (inr k) = let bad = k.gives in cc
 
 -- ---- what the rule says is read, unless the reader's number is spent
 
@@ -234,12 +269,14 @@ pub record IsSpent {A : Type 0} (o : Outcome A) : Type 0 where
 abbrev pub Unless : {A : Type 0} → Outcome A → Outcome A → Type 0
 Unless o expected = (o ≡ expected) ⊎ IsSpent o
 
-pub unless_then : {A B : Type 0} (o : Outcome A) (f : A → Reader B) (a : A) (mid : Left) (all : Outcome B) → Unless o (Ok (a, mid)) → Unless (f a mid) all → Unless (and_then o f) all
+pub unless_then : {A B : Type 0} (o : Outcome A) (f : A → Reader B) (a : A) (mid : Left) (all : Outcome B) → Unless o (Ok (a, mid))
+    → Unless (f a mid) all → Unless (and_then o f) all
 unless_then o f a mid all (inl e) (inl h) = inl (ap (λ x. and_then x f) e ∙ h)
 unless_then o f a mid all (inl e) (inr s) = inr (record { rest = s.rest; is = ap (λ x. and_then x f) e ∙ s.is })
 unless_then o f a mid all (inr s) h = inr (record { rest = s.rest; is = ap (λ x. and_then x f) s.is })
 
-pub unless_stuck : {A B : Type 0} (o : Outcome A) (f : A → Reader B) (why : Stop) (rest : Left) → Unless o (Err (why, rest)) → Unless (and_then o f) (Err (why, rest))
+pub unless_stuck : {A B : Type 0} (o : Outcome A) (f : A → Reader B) (why : Stop) (rest : Left) → Unless o (Err (why, rest))
+    → Unless (and_then o f) (Err (why, rest))
 unless_stuck o f why rest (inl e) = inl (ap (λ x. and_then x f) e)
 unless_stuck o f why rest (inr s) = inr (record { rest = s.rest; is = ap (λ x. and_then x f) s.is })
 
@@ -296,7 +333,8 @@ module _ {A : Type 0} (first : Lexeme → Bool) (p : Reader A) (r : Rule A) (bet
       let e : back ++ rest ≡ h.0 ++ (h.1 ++ rest) = ap (λ l. l ++ rest) h.2 ∙ append_assoc h.0 h.1 rest in
       goes (back ++ rest) (ap (next_is first) e ∙ starts.begins h.0 (h.1 ++ rest) a h.3)
 
-  many_reads : (n : ℕ) (used rest : Left) (all : List A) → rule.many r used all → Stops after rest → Unless (read.many n first p (used ++ rest)) (Ok (all, rest))
+  many_reads : (n : ℕ) (used rest : Left) (all : List A) → rule.many r used all → Stops after rest
+      → Unless (read.many n first p (used ++ rest)) (Ok (all, rest))
   unfolding read.many
   many_reads zero used rest all h stops = inr (record { rest = used ++ rest; is = refl })
   many_reads (suc n) used rest [] h stops =
@@ -317,22 +355,26 @@ module _ {A : Type 0} (first : Lexeme → Bool) (p : Reader A) (r : Rule A) (bet
   pub Complete-many : (n : ℕ) → Complete (rule.many r) (read.many n first p) after
   Complete-many n = record { reads = many_reads n }
 
-pub Complete-placed : {A : Type 0} (p : Reader A) (r : Rule A) (after : Lexeme → Bool) → TakesSome r → Complete r p after → Complete (rule.placed r) (read.placed p) after
+pub Complete-placed : {A : Type 0} (p : Reader A) (r : Rule A) (after : Lexeme → Bool) → TakesSome r → Complete r p after
+    → Complete (rule.placed r) (read.placed p) after
 Complete-placed {A} p r after some complete = record { reads = all } where
   all : (used rest : Left) (a : ℕ × A) → rule.placed r used a → Stops after rest → Unless (read.placed p (used ++ rest)) (Ok (a, rest))
   all used rest a h stops =
       let e : place_of (used ++ rest) ≡ a.0 = place_of-front used rest (takes_some r used a.1 some h.0) ∙ sym h.1 in
-      unless_then (p (used ++ rest)) (read.located (place_of (used ++ rest))) a.1 rest (Ok (a, rest)) (complete.reads used rest a.1 h.0 stops) (inl (ap (λ n. read.located n a.1 rest) e))
+      unless_then (p (used ++ rest)) (read.located (place_of (used ++ rest))) a.1 rest (Ok (a, rest)) (complete.reads used rest a.1 h.0 stops)
+      (inl (ap (λ n. read.located n a.1 rest) e))
 
 -- a rule that says less
-pub Complete-narrower : {A : Type 0} (p : Reader A) (r s : Rule A) (after : Lexeme → Bool) → ((used : Left) (a : A) → s used a → r used a) → Complete r p after → Complete s p after
+pub Complete-narrower : {A : Type 0} (p : Reader A) (r s : Rule A) (after : Lexeme → Bool) → ((used : Left) (a : A) → s used a → r used a)
+    → Complete r p after → Complete s p after
 Complete-narrower p r s after narrower complete = record { reads = λ used rest a h stops. complete.reads used rest a (narrower used a h) stops }
 
 -- ---- what was decided by some tokens is decided so whatever comes behind the next of them
 
 pub record Agrees {A : Type 0} (p q : Reader A) : Type 0 where
   pub ok : (used rest more : Left) (t : Lexeme) (a : A) → p (used ++ t ∷ rest) ≡ Ok (a, t ∷ rest) → Unless (q (used ++ t ∷ more)) (Ok (a, t ∷ more))
-  pub stuck : (used rest more : Left) (t : Lexeme) (why : Stop) → why ≢ Spent → p (used ++ t ∷ rest) ≡ Err (why, t ∷ rest) → Unless (q (used ++ t ∷ more)) (Err (why, t ∷ more))
+  pub stuck : (used rest more : Left) (t : Lexeme) (why : Stop) → why ≢ Spent → p (used ++ t ∷ rest) ≡ Err (why, t ∷ rest)
+      → Unless (q (used ++ t ∷ more)) (Err (why, t ∷ more))
 
 agrees_at : {A : Type 0} (p q : Reader A) → Agrees p q → (used mid rest more : Left) (t : Lexeme) (a : A)
     → p (used ++ (mid ++ t ∷ rest)) ≡ Ok (a, mid ++ t ∷ rest) → Unless (q (used ++ (mid ++ t ∷ more))) (Ok (a, mid ++ t ∷ more))
@@ -347,7 +389,8 @@ none_before used rest e = append_cancel_right used [] rest e
 
 pub Agrees-pure : {A : Type 0} (a : A) → Agrees (read.pure a) (read.pure a)
 Agrees-pure {A} a = record { ok = right; stuck = λ used rest more t why some e. cc } where
-  right : (used rest more : Left) (t : Lexeme) (b : A) → read.pure a (used ++ t ∷ rest) ≡ Ok (b, t ∷ rest) → Unless (read.pure a (used ++ t ∷ more)) (Ok (b, t ∷ more))
+  right : (used rest more : Left) (t : Lexeme) (b : A) → read.pure a (used ++ t ∷ rest) ≡ Ok (b, t ∷ rest)
+      → Unless (read.pure a (used ++ t ∷ more)) (Ok (b, t ∷ more))
   right used rest more t b e =
       let found = ok_value e in
       inl (ap (λ l. read.pure a (l ++ t ∷ more)) (none_before used (t ∷ rest) (ap (λ f. f.1) found)) ∙ ap (λ v. read.pure v (t ∷ more)) (ap (λ f. f.0) found))
@@ -355,7 +398,8 @@ Agrees-pure {A} a = record { ok = right; stuck = λ used rest more t why some e.
 pub Agrees-one : {A : Type 0} (f : Lexeme → Option A) → Agrees (read.one f) (read.one f)
 unfolding read.one
 Agrees-one {A} f = record { ok = right; stuck = wrong } where
-  right : (used rest more : Left) (t : Lexeme) (a : A) → read.one f (used ++ t ∷ rest) ≡ Ok (a, t ∷ rest) → Unless (read.one f (used ++ t ∷ more)) (Ok (a, t ∷ more))
+  right : (used rest more : Left) (t : Lexeme) (a : A) → read.one f (used ++ t ∷ rest) ≡ Ok (a, t ∷ rest)
+      → Unless (read.one f (used ++ t ∷ more)) (Ok (a, t ∷ more))
   right [] rest more t a e = absurd (no_longer [] rest t (sym (taken_ok t rest (t ∷ rest) a (f t) e).1))
   right (h ∷ used) rest more t a e =
       let k = taken_ok h (used ++ t ∷ rest) (t ∷ rest) a (f h) e in
@@ -365,7 +409,8 @@ Agrees-one {A} f = record { ok = right; stuck = wrong } where
   refused t rest more why (Some a) e = cc
   refused t rest more why None e = ap (λ w. Err (w, t ∷ more)) (ap (λ x. x.0) (err_value e))
 
-  wrong : (used rest more : Left) (t : Lexeme) (why : Stop) → why ≢ Spent → read.one f (used ++ t ∷ rest) ≡ Err (why, t ∷ rest) → Unless (read.one f (used ++ t ∷ more)) (Err (why, t ∷ more))
+  wrong : (used rest more : Left) (t : Lexeme) (why : Stop) → why ≢ Spent → read.one f (used ++ t ∷ rest) ≡ Err (why, t ∷ rest)
+      → Unless (read.one f (used ++ t ∷ more)) (Err (why, t ∷ more))
   wrong [] rest more t why some e = inl (refused t rest more why (f t) e)
   wrong (h ∷ used) rest more t why some e =
       let k = ap length (taken_err h (used ++ t ∷ rest) (t ∷ rest) why (f h) e).0 in
@@ -379,19 +424,22 @@ Agrees-then {A} {B} p p' q q' r s sp sq ap_ aq = record { ok = right; stuck = wr
   seam used rest t x y mid e f =
       append_cancel_right used (x ++ y) (t ∷ rest) (e ∙ ap (λ l. x ++ l) f ∙ sym (append_assoc x y (t ∷ rest)))
 
-  first_part : (used rest more : Left) (t : Lexeme) (x y mid : Left) (a : A) → p (used ++ t ∷ rest) ≡ Ok (a, mid) → used ++ t ∷ rest ≡ x ++ mid → mid ≡ y ++ t ∷ rest
+  first_part : (used rest more : Left) (t : Lexeme) (x y mid : Left) (a : A) → p (used ++ t ∷ rest) ≡ Ok (a, mid) → used ++ t ∷ rest ≡ x ++ mid
+      → mid ≡ y ++ t ∷ rest
       → Unless (p' (x ++ (y ++ t ∷ more))) (Ok (a, y ++ t ∷ more))
   first_part used rest more t x y mid a was e f =
       agrees_at p p' ap_ x y rest more t a (sym (ap p (e ∙ ap (λ l. x ++ l) f)) ∙ was ∙ ap (λ l. Ok (a, l)) f)
 
-  joined : (used rest more : Left) (t : Lexeme) (x y mid : Left) (a : A) (all : Outcome B) → p (used ++ t ∷ rest) ≡ Ok (a, mid) → used ++ t ∷ rest ≡ x ++ mid → mid ≡ y ++ t ∷ rest
+  joined : (used rest more : Left) (t : Lexeme) (x y mid : Left) (a : A) (all : Outcome B) → p (used ++ t ∷ rest) ≡ Ok (a, mid)
+      → used ++ t ∷ rest ≡ x ++ mid → mid ≡ y ++ t ∷ rest
       → Unless (q' a (y ++ t ∷ more)) all → Unless (and_then (p' (used ++ t ∷ more)) q') all
   joined used rest more t x y mid a all was e f second =
       let is : used ++ t ∷ more ≡ x ++ (y ++ t ∷ more) = ap (λ l. l ++ t ∷ more) (seam used rest t x y mid e f) ∙ append_assoc x y (t ∷ more) in
       let P : Left → Type 0 = λ l. Unless (and_then (p' l) q') all in
       subst P (sym is) (unless_then (p' (x ++ (y ++ t ∷ more))) q' a (y ++ t ∷ more) all (first_part used rest more t x y mid a was e f) second)
 
-  right : (used rest more : Left) (t : Lexeme) (b : B) → and_then (p (used ++ t ∷ rest)) q ≡ Ok (b, t ∷ rest) → Unless (and_then (p' (used ++ t ∷ more)) q') (Ok (b, t ∷ more))
+  right : (used rest more : Left) (t : Lexeme) (b : B) → and_then (p (used ++ t ∷ rest)) q ≡ Ok (b, t ∷ rest)
+      → Unless (and_then (p' (used ++ t ∷ more)) q') (Ok (b, t ∷ more))
   right used rest more t b e =
       let k = and_then_ok (p (used ++ t ∷ rest)) q b (t ∷ rest) e in
       let x = sp.ok (used ++ t ∷ rest) k.mid k.value k.was in
@@ -399,9 +447,11 @@ Agrees-then {A} {B} p p' q q' r s sp sq ap_ aq = record { ok = right; stuck = wr
       joined used rest more t x.used y.used k.mid k.value (Ok (b, t ∷ more)) k.was x.is y.is
       ((aq k.value).ok y.used rest more t b (sym (ap (q k.value) y.is) ∙ k.gives))
 
-  wrong : (used rest more : Left) (t : Lexeme) (why : Stop) → why ≢ Spent → and_then (p (used ++ t ∷ rest)) q ≡ Err (why, t ∷ rest) → Unless (and_then (p' (used ++ t ∷ more)) q') (Err (why, t ∷ more))
+  wrong : (used rest more : Left) (t : Lexeme) (why : Stop) → why ≢ Spent → and_then (p (used ++ t ∷ rest)) q ≡ Err (why, t ∷ rest)
+      → Unless (and_then (p' (used ++ t ∷ more)) q') (Err (why, t ∷ more))
   wrong used rest more t why some e = cases (and_then_err (p (used ++ t ∷ rest)) q why (t ∷ rest) e) where
-    cases : (p (used ++ t ∷ rest) ≡ Err (why, t ∷ rest)) ⊎ IsThen (p (used ++ t ∷ rest)) q (Err (why, t ∷ rest)) → Unless (and_then (p' (used ++ t ∷ more)) q') (Err (why, t ∷ more))
+    cases : (p (used ++ t ∷ rest) ≡ Err (why, t ∷ rest)) ⊎ IsThen (p (used ++ t ∷ rest)) q (Err (why, t ∷ rest))
+        → Unless (and_then (p' (used ++ t ∷ more)) q') (Err (why, t ∷ more))
     cases (inl h) = unless_stuck (p' (used ++ t ∷ more)) q' why (t ∷ more) (ap_.stuck used rest more t why some h)
     cases (inr k) =
         let x = sp.ok (used ++ t ∷ rest) k.mid k.value k.was in
@@ -417,26 +467,33 @@ place_of-same : (used rest more : Left) (t : Lexeme) → place_of (used ++ t ∷
 place_of-same [] rest more t = refl
 place_of-same (h ∷ used) rest more t = refl
 
-pub Agrees-choose : {A : Type 0} (first : Lexeme → Bool) (p p' q q' : Reader A) → Agrees p p' → Agrees q q' → Agrees (read.choose first p q) (read.choose first p' q')
+pub Agrees-choose : {A : Type 0} (first : Lexeme → Bool) (p p' q q' : Reader A) → Agrees p p' → Agrees q q'
+    → Agrees (read.choose first p q) (read.choose first p' q')
 Agrees-choose {A} first p p' q q' one other = record { ok = right; stuck = wrong } where
-  by : (used rest more : Left) (t : Lexeme) (b : Bool) (all : Outcome A) → next_is first (used ++ t ∷ rest) ≡ b → Unless (cond b (p' (used ++ t ∷ more)) (q' (used ++ t ∷ more))) all → Unless (read.choose first p' q' (used ++ t ∷ more)) all
+  by : (used rest more : Left) (t : Lexeme) (b : Bool) (all : Outcome A) → next_is first (used ++ t ∷ rest) ≡ b
+      → Unless (cond b (p' (used ++ t ∷ more)) (q' (used ++ t ∷ more))) all → Unless (read.choose first p' q' (used ++ t ∷ more)) all
   by used rest more t b all e h =
       let P : Bool → Type 0 = λ x. Unless (cond x (p' (used ++ t ∷ more)) (q' (used ++ t ∷ more))) all in
       subst P (sym e ∙ next_is-same first used rest more t) h
 
-  right : (used rest more : Left) (t : Lexeme) (a : A) → read.choose first p q (used ++ t ∷ rest) ≡ Ok (a, t ∷ rest) → Unless (read.choose first p' q' (used ++ t ∷ more)) (Ok (a, t ∷ more))
+  right : (used rest more : Left) (t : Lexeme) (a : A) → read.choose first p q (used ++ t ∷ rest) ≡ Ok (a, t ∷ rest)
+      → Unless (read.choose first p' q' (used ++ t ∷ more)) (Ok (a, t ∷ more))
   right used rest more t a e = cases (chosen (next_is first (used ++ t ∷ rest)) (p (used ++ t ∷ rest)) (q (used ++ t ∷ rest)) (Ok (a, t ∷ rest)) e) where
-    cases : ((next_is first (used ++ t ∷ rest) ≡ true) × (p (used ++ t ∷ rest) ≡ Ok (a, t ∷ rest))) ⊎ ((next_is first (used ++ t ∷ rest) ≡ false) × (q (used ++ t ∷ rest) ≡ Ok (a, t ∷ rest)))
+    cases : ((next_is first (used ++ t ∷ rest) ≡ true) × (p (used ++ t ∷ rest) ≡ Ok (a, t ∷ rest)))
+        ⊎ ((next_is first (used ++ t ∷ rest) ≡ false) × (q (used ++ t ∷ rest) ≡ Ok (a, t ∷ rest)))
         → Unless (read.choose first p' q' (used ++ t ∷ more)) (Ok (a, t ∷ more))
     cases (inl h) = by used rest more t true (Ok (a, t ∷ more)) h.0 (one.ok used rest more t a h.1)
     cases (inr h) = by used rest more t false (Ok (a, t ∷ more)) h.0 (other.ok used rest more t a h.1)
 
-  wrong : (used rest more : Left) (t : Lexeme) (why : Stop) → why ≢ Spent → read.choose first p q (used ++ t ∷ rest) ≡ Err (why, t ∷ rest) → Unless (read.choose first p' q' (used ++ t ∷ more)) (Err (why, t ∷ more))
-  wrong used rest more t why some e = cases (chosen (next_is first (used ++ t ∷ rest)) (p (used ++ t ∷ rest)) (q (used ++ t ∷ rest)) (Err (why, t ∷ rest)) e) where
-    cases : ((next_is first (used ++ t ∷ rest) ≡ true) × (p (used ++ t ∷ rest) ≡ Err (why, t ∷ rest))) ⊎ ((next_is first (used ++ t ∷ rest) ≡ false) × (q (used ++ t ∷ rest) ≡ Err (why, t ∷ rest)))
-        → Unless (read.choose first p' q' (used ++ t ∷ more)) (Err (why, t ∷ more))
-    cases (inl h) = by used rest more t true (Err (why, t ∷ more)) h.0 (one.stuck used rest more t why some h.1)
-    cases (inr h) = by used rest more t false (Err (why, t ∷ more)) h.0 (other.stuck used rest more t why some h.1)
+  wrong : (used rest more : Left) (t : Lexeme) (why : Stop) → why ≢ Spent → read.choose first p q (used ++ t ∷ rest) ≡ Err (why, t ∷ rest)
+      → Unless (read.choose first p' q' (used ++ t ∷ more)) (Err (why, t ∷ more))
+  wrong used rest more t why some e =
+      cases (chosen (next_is first (used ++ t ∷ rest)) (p (used ++ t ∷ rest)) (q (used ++ t ∷ rest)) (Err (why, t ∷ rest)) e) where
+        cases : ((next_is first (used ++ t ∷ rest) ≡ true) × (p (used ++ t ∷ rest) ≡ Err (why, t ∷ rest)))
+            ⊎ ((next_is first (used ++ t ∷ rest) ≡ false) × (q (used ++ t ∷ rest) ≡ Err (why, t ∷ rest)))
+            → Unless (read.choose first p' q' (used ++ t ∷ more)) (Err (why, t ∷ more))
+        cases (inl h) = by used rest more t true (Err (why, t ∷ more)) h.0 (one.stuck used rest more t why some h.1)
+        cases (inr h) = by used rest more t false (Err (why, t ∷ more)) h.0 (other.stuck used rest more t why some h.1)
 
 pub Agrees-spent : {A : Type 0} (q : Reader A) → Agrees (read.stop Spent) q
 Agrees-spent q = record { ok = λ used rest more t a e. cc; stuck = λ used rest more t why some e. absurd (some (sym (ap (λ x. x.0) (err_value e)))) }
@@ -447,29 +504,37 @@ Agrees-with_spent p = record {
   stuck = λ used rest more t why some e. inr (record { rest = used ++ t ∷ more; is = refl });
 }
 
-pub Agrees-many : {A : Type 0} (n m : ℕ) (first : Lexeme → Bool) (p p' : Reader A) (r : Rule A) → Sound p r → Agrees p p' → Agrees (read.many n first p) (read.many m first p')
+pub Agrees-many : {A : Type 0} (n m : ℕ) (first : Lexeme → Bool) (p p' : Reader A) (r : Rule A) → Sound p r → Agrees p p'
+    → Agrees (read.many n first p) (read.many m first p')
 unfolding read.many
 Agrees-many zero m first p p' r sound agrees = Agrees-spent (read.many m first p')
 Agrees-many (suc n) zero first p p' r sound agrees = Agrees-with_spent (read.many (suc n) first p)
 Agrees-many (suc n) (suc m) first p p' r sound agrees =
     Agrees-choose first _ _ _ _
-    (Agrees-then p p' _ _ r _ sound (λ a. Sound-then (read.many n first p) _ (rule.many r) _ (Sound-many n first p r sound) (λ more. Sound-pure (a ∷ more))) agrees
-    (λ a. Agrees-then (read.many n first p) (read.many m first p') _ _ (rule.many r) _ (Sound-many n first p r sound) (λ more. Sound-pure (a ∷ more)) (Agrees-many n m first p p' r sound agrees) (λ more. Agrees-pure (a ∷ more))))
+    (Agrees-then p p' _ _ r _ sound (λ a. Sound-then (read.many n first p) _ (rule.many r) _ (Sound-many n first p r sound)
+    (λ more. Sound-pure (a ∷ more))) agrees
+    (λ a. Agrees-then (read.many n first p) (read.many m first p') _ _ (rule.many r) _ (Sound-many n first p r sound) (λ more. Sound-pure (a ∷ more))
+    (Agrees-many n m first p p' r sound agrees) (λ more. Agrees-pure (a ∷ more))))
     (Agrees-pure [])
 
 pub Agrees-placed : {A : Type 0} (p p' : Reader A) (r : Rule A) → Sound p r → Agrees p p' → Agrees (read.placed p) (read.placed p')
 Agrees-placed {A} p p' r sound agrees = record { ok = right; stuck = wrong } where
-  right : (used rest more : Left) (t : Lexeme) (a : ℕ × A) → read.placed p (used ++ t ∷ rest) ≡ Ok (a, t ∷ rest) → Unless (read.placed p' (used ++ t ∷ more)) (Ok (a, t ∷ more))
+  right : (used rest more : Left) (t : Lexeme) (a : ℕ × A) → read.placed p (used ++ t ∷ rest) ≡ Ok (a, t ∷ rest)
+      → Unless (read.placed p' (used ++ t ∷ more)) (Ok (a, t ∷ more))
   right used rest more t a e =
       let k = and_then_ok (p (used ++ t ∷ rest)) (read.located (place_of (used ++ t ∷ rest))) a (t ∷ rest) e in
       let found = ok_value k.gives in
       let was : p (used ++ t ∷ rest) ≡ Ok (k.value, t ∷ rest) = k.was ∙ ap (λ l. Ok (k.value, l)) (ap (λ f. f.1) found) in
-      unless_then (p' (used ++ t ∷ more)) (read.located (place_of (used ++ t ∷ more))) k.value (t ∷ more) (Ok (a, t ∷ more)) (agrees.ok used rest more t k.value was)
+      unless_then (p' (used ++ t ∷ more)) (read.located (place_of (used ++ t ∷ more))) k.value (t ∷ more) (Ok (a, t ∷ more))
+      (agrees.ok used rest more t k.value was)
       (inl (ap (λ n. read.located n k.value (t ∷ more)) (sym (place_of-same used rest more t)) ∙ ap (λ v. Ok (v, t ∷ more)) (ap (λ f. f.0) found)))
 
-  wrong : (used rest more : Left) (t : Lexeme) (why : Stop) → why ≢ Spent → read.placed p (used ++ t ∷ rest) ≡ Err (why, t ∷ rest) → Unless (read.placed p' (used ++ t ∷ more)) (Err (why, t ∷ more))
+  wrong : (used rest more : Left) (t : Lexeme) (why : Stop) → why ≢ Spent → read.placed p (used ++ t ∷ rest) ≡ Err (why, t ∷ rest)
+      → Unless (read.placed p' (used ++ t ∷ more)) (Err (why, t ∷ more))
   wrong used rest more t why some e = cases (and_then_err (p (used ++ t ∷ rest)) (read.located (place_of (used ++ t ∷ rest))) why (t ∷ rest) e) where
-    cases : (p (used ++ t ∷ rest) ≡ Err (why, t ∷ rest)) ⊎ IsThen (p (used ++ t ∷ rest)) (read.located (place_of (used ++ t ∷ rest))) (Err (why, t ∷ rest)) → Unless (read.placed p' (used ++ t ∷ more)) (Err (why, t ∷ more))
+    cases : (p (used ++ t ∷ rest) ≡ Err (why, t ∷ rest))
+        ⊎ IsThen (p (used ++ t ∷ rest)) (read.located (place_of (used ++ t ∷ rest))) (Err (why, t ∷ rest))
+        → Unless (read.placed p' (used ++ t ∷ more)) (Err (why, t ∷ more))
     cases (inl h) = unless_stuck (p' (used ++ t ∷ more)) (read.located (place_of (used ++ t ∷ more))) why (t ∷ more) (agrees.stuck used rest more t why some h)
     cases (inr k) = let bad = k.gives in cc
 
@@ -496,7 +561,8 @@ Lasts-choose {A} n first p q one other = record { spent = all } where
     cases (inl h) = one.spent ts rest h.1
     cases (inr h) = other.spent ts rest h.1
 
-pub Lasts-then : {A B : Type 0} (n : ℕ) (p : Reader A) (q : A → Reader B) (r : Rule A) → Sound p r → Lasts n p → ((a : A) → Lasts n (q a)) → Lasts n (read.◌>>=◌ p q)
+pub Lasts-then : {A B : Type 0} (n : ℕ) (p : Reader A) (q : A → Reader B) (r : Rule A) → Sound p r → Lasts n p → ((a : A) → Lasts n (q a))
+    → Lasts n (read.◌>>=◌ p q)
 Lasts-then {A} {B} n p q r sound first second = record { spent = all } where
   all : (ts rest : Left) → and_then (p ts) q ≡ Err (Spent, rest) → n + length rest ≤ length ts
   all ts rest e = cases (and_then_err (p ts) q Spent rest e) where
@@ -508,7 +574,8 @@ Lasts-then {A} {B} n p q r sound first second = record { spent = all } where
         omega (arith, later, ap length x.is, length-append x.used k.mid)
 
 -- the first takes at least one token, so the second may last for one less
-pub Lasts-after : {A B : Type 0} (n : ℕ) (p : Reader A) (q : A → Reader B) (r : Rule A) → TakesSome r → Sound p r → Lasts (suc n) p → ((a : A) → Lasts n (q a)) → Lasts (suc n) (read.◌>>=◌ p q)
+pub Lasts-after : {A B : Type 0} (n : ℕ) (p : Reader A) (q : A → Reader B) (r : Rule A) → TakesSome r → Sound p r → Lasts (suc n) p
+    → ((a : A) → Lasts n (q a)) → Lasts (suc n) (read.◌>>=◌ p q)
 Lasts-after {A} {B} n p q r some sound first second = record { spent = all } where
   longer : (used : Left) → (used ≡ [] → ⊥) → 0 < length used
   longer [] h = absurd (h refl)
@@ -532,7 +599,8 @@ unfolding read.many
 Lasts-many zero first p r some sound lasts = record { spent = λ ts rest e. let k = ap length (ap (λ x. x.1) (err_value e)) in omega (arith, k) }
 Lasts-many (suc n) first p r some sound lasts =
     Lasts-choose (suc n) first _ _
-    (Lasts-after n p _ r some sound lasts (λ a. Lasts-then n (read.many n first p) _ (rule.many r) (Sound-many n first p r sound) (Lasts-many n first p r some sound (Lasts-fewer (suc n) n p (omega arith) lasts)) (λ more. Lasts-pure n (a ∷ more))))
+    (Lasts-after n p _ r some sound lasts (λ a. Lasts-then n (read.many n first p) _ (rule.many r) (Sound-many n first p r sound)
+    (Lasts-many n first p r some sound (Lasts-fewer (suc n) n p (omega arith) lasts)) (λ more. Lasts-pure n (a ∷ more))))
     (Lasts-pure (suc n) [])
 
 pub Lasts-placed : {A : Type 0} (n : ℕ) (p : Reader A) (r : Rule A) → Sound p r → Lasts n p → Lasts n (read.placed p)

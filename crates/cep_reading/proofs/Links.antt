@@ -13,7 +13,9 @@ use Rattle.cep_reading.proofs.Starts.{Avoids, starts-then, starts-symbol, takes-
 module _ {S A E : Type 0} (lead ends : List ℕ) (next : S → A → S) (re : Rule E) where
   -- the links, and one that ends them
   abbrev pub Linked : (S → Rule A) → S → Rule (S × Option E)
-  Linked r s = rule.◌>>=◌ (Builds next (λ x. rule.◌>>◌ (rule.sign lead) (r x)) s) (λ b. rule.◌>>=◌ (rule.maybe (rule.◌>>◌ (rule.sign lead) re)) (λ w. rule.pure (b, w)))
+  Linked r s =
+      rule.◌>>=◌ (Builds next (λ x. rule.◌>>◌ (rule.sign lead) (r x)) s)
+      (λ b. rule.◌>>=◌ (rule.maybe (rule.◌>>◌ (rule.sign lead) re)) (λ w. rule.pure (b, w)))
 
   -- what may stand behind a sign
   abbrev pub behind : (S → Rule A) → S → Rule (S × Option E)
@@ -81,7 +83,8 @@ module _ {S A E : Type 0} (lead ends : List ℕ) (next : S → A → S) (re : Ru
 
     linked_turn : (s : S) (used : Left) (v : S × Option E) → Linked r s used v → turn r s used v
     linked_turn s used v h = cases h.first.items h.first.holds h.first.is where
-      maybe_ended : S → rule.maybe (rule.◌>>◌ (rule.sign lead) re) h.second.front h.second.value → used ≡ h.second.front → v ≡ (s, h.second.value) → turn r s used v
+      maybe_ended : S → rule.maybe (rule.◌>>◌ (rule.sign lead) re) h.second.front h.second.value → used ≡ h.second.front → v ≡ (s, h.second.value)
+          → turn r s used v
       maybe_ended x (inr k) is v_is = inr (is ∙ k.0, v_is ∙ ap (λ w. (s, w)) k.1)
       maybe_ended x (inl k) is v_is =
           let one = k.first in
@@ -92,7 +95,16 @@ module _ {S A E : Type 0} (lead ends : List ℕ) (next : S → A → S) (re : Ru
             value = one.value;
             is = is ∙ sym front_is ∙ one.is;
             first = one.first;
-            second = inl (record { front = one.back; back = []; value = k.value; is = sym (append-nil one.back); first = one.second; second = (refl, v_is ∙ ap (λ w. (s, w)) k.second.1) });
+            second =
+                inl (record {
+                  front = one.back;
+                  back = [];
+                  value = k.value;
+                  is = sym (append-nil one.back);
+                  first = one.second;
+                  second =
+                      (refl, v_is ∙ ap (λ w. (s, w)) k.second.1);
+                });
           })
 
       back_is : h.back ≡ h.second.front
@@ -115,11 +127,21 @@ module _ {S A E : Type 0} (lead ends : List ℕ) (next : S → A → S) (re : Ru
               value = a;
               is = refl;
               first = one.second;
-              second = record { front = holds.1; back = h.back; value = h.value; is = refl; first = record { items = items; holds = holds.4; is = is }; second = h.second };
+              second =
+                  record {
+                    front = holds.1;
+                    back = h.back;
+                    value = h.value;
+                    is = refl;
+                    first =
+                        record { items = items; holds = holds.4; is = is };
+                    second = h.second;
+                  };
             });
           })
 
-  module _ (r : S → Rule A) (p : S → Reader A) (e : Reader E) (mark : Lexeme) (marks : only (symbol lead) mark ≡ Some tt) (item : (s : S) → Sound (p s) (r s)) (exit : Sound e re) where
+  module _ (r : S → Rule A) (p : S → Reader A) (e : Reader E) (mark : Lexeme) (marks : only (symbol lead) mark ≡ Some tt)
+      (item : (s : S) → Sound (p s) (r s)) (exit : Sound e re) where
     sound-lead : Sound (read.sign lead) (rule.sign lead)
     sound-lead = Sound-one (only (symbol lead)) mark tt marks
 
@@ -130,7 +152,13 @@ module _ {S A E : Type 0} (lead ends : List ℕ) (next : S → A → S) (re : Ru
     unfolding read.links
     Sound-links zero s = record {
       ok = λ ts rest a x. cc;
-      stuck = λ ts rest why x. record { used = []; is = ap (λ y. y.1) (err_value x); holds = record { more = []; value = (s, None); holds = (word-linked s).holds } };
+      stuck =
+          λ ts rest why x. record {
+            used = [];
+            is = ap (λ y. y.1) (err_value x);
+            holds =
+                record { more = []; value = (s, None); holds = (word-linked s).holds };
+          };
       some = word-linked s;
     }
     Sound-links (suc n) s =
@@ -142,7 +170,9 @@ module _ {S A E : Type 0} (lead ends : List ℕ) (next : S → A → S) (re : Ru
         (Sound-then _ _ _ _ (item s) (λ a. Sound-links n (next s a)))))
         (Sound-pure (s, None)))
 
-    sound-behind : (n : ℕ) (s : S) → Sound (read.choose (word ends) (read.◌>>=◌ e (λ x. read.pure (s, Some x))) (read.◌>>=◌ (p s) (λ a. read.links n lead ends next p e (next s a)))) (behind r s)
+    sound-behind : (n : ℕ) (s : S)
+        → Sound (read.choose (word ends) (read.◌>>=◌ e (λ x. read.pure (s, Some x)))
+        (read.◌>>=◌ (p s) (λ a. read.links n lead ends next p e (next s a)))) (behind r s)
     sound-behind n s =
         Sound-choose (word ends) _ _ _ _
         (Sound-then _ _ _ _ exit (λ x. Sound-pure (s, Some x)))
@@ -176,7 +206,8 @@ module _ {S A E : Type 0} (lead ends : List ℕ) (next : S → A → S) (re : Ru
         (Lasts-pure (suc n) (s, None))
 
   module _ (r : S → Rule A) (p : S → Reader A) (e : Reader E) (nothing : Lexeme → Bool) (none : (l : Left) → Stops nothing l)
-      (item : (s : S) → Complete (r s) (p s) nothing) (exit : Complete re e nothing) (starts : StartsWith re (word ends)) (avoids : (s : S) → Avoids (r s) (word ends)) where
+      (item : (s : S) → Complete (r s) (p s) nothing) (exit : Complete re e nothing) (starts : StartsWith re (word ends))
+      (avoids : (s : S) → Avoids (r s) (word ends)) where
     pub Complete-links : (n : ℕ) (s : S) → Complete (Linked r s) (read.links n lead ends next p e s) (symbol lead)
     unfolding read.links
     Complete-links zero s = record { reads = λ used rest a h stops. inr (record { rest = used ++ rest; is = refl }) }

@@ -13,7 +13,8 @@ pub with_front-none : {A : Type 0} (o : Outcome (List A)) → with_front [] o �
 with_front-none (Ok found) = refl
 with_front-none (Err stop) = refl
 
-with_front-cons : {A : Type 0} (found : List A) (a : A) (o : Outcome (List A)) → with_front found (and_then o (λ more. pure (a ∷ more))) ≡ with_front (found ++ a ∷ []) o
+with_front-cons : {A : Type 0} (found : List A) (a : A) (o : Outcome (List A))
+    → with_front found (and_then o (λ more. pure (a ∷ more))) ≡ with_front (found ++ a ∷ []) o
 with_front-cons found a (Ok more) = ap (λ l. Ok (l, more.1)) (sym (append_assoc found (a ∷ []) more.0))
 with_front-cons found a (Err stop) = refl
 
@@ -37,7 +38,8 @@ module _ {A : Type 0} (first : Lexeme → Bool) (p : Reader A) (room turn : ℕ)
       ap (with_front found) (one_more below ∙ ap (λ b. cond b (and_then (p ts) next) (Ok ([], ts))) sees)
       ∙ ap (λ l. Ok (l, ts)) (append-nil found)
 
-  pub many_fails : (why : Stop) (rest : Left) → turn < room → next_is first ts ≡ true → p ts ≡ Err (why, rest) → with_front found (many (room - turn) first p ts) ≡ Err (why, rest)
+  pub many_fails : (why : Stop) (rest : Left) → turn < room → next_is first ts ≡ true → p ts ≡ Err (why, rest)
+      → with_front found (many (room - turn) first p ts) ≡ Err (why, rest)
   unfolding many
   many_fails why rest below sees reads =
       ap (with_front found) (one_more below ∙ ap (λ b. cond b (and_then (p ts) next) (Ok ([], ts))) sees ∙ ap (λ o. and_then o next) reads)

@@ -49,4 +49,5 @@ pub Quiet-many : {A : Type 0} (n : ℕ) (first : Lexeme → Bool) (p : Reader A)
 unfolding read.many
 Quiet-many zero first p quiet = Quiet-spent
 Quiet-many (suc n) first p quiet =
-    Quiet-choose first _ _ (Quiet-then p _ quiet (λ a. Quiet-then (read.many n first p) _ (Quiet-many n first p quiet) (λ more. Quiet-pure (a ∷ more)))) (Quiet-pure [])
+    Quiet-choose first _ _ (Quiet-then p _ quiet
+    (λ a. Quiet-then (read.many n first p) _ (Quiet-many n first p quiet) (λ more. Quiet-pure (a ∷ more)))) (Quiet-pure [])

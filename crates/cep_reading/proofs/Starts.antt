@@ -98,10 +98,11 @@ has_text (text ∷ texts) other = bytes_eq text other || has_text texts other
 -- one of these words has no other text
 pub same_one_of : (texts : List (List ℕ)) (other : List ℕ) (t : Lexeme) → has_text texts other ≡ false → one_of texts t ≡ true → word other t ≡ false
 same_one_of [] other t h e = cc
-same_one_of (text ∷ texts) other t h e = cases (word text t) refl e (λ k. same_one_of texts other t (or_false (bytes_eq text other) (has_text texts other) h).1 k) where
-  cases : (b : Bool) → word text t ≡ b → b || one_of texts t ≡ true → (one_of texts t ≡ true → word other t ≡ false) → word other t ≡ false
-  cases true k f later = same_word text other t k ∙ (or_false (bytes_eq text other) (has_text texts other) h).0
-  cases false k f later = later f
+same_one_of (text ∷ texts) other t h e =
+    cases (word text t) refl e (λ k. same_one_of texts other t (or_false (bytes_eq text other) (has_text texts other) h).1 k) where
+      cases : (b : Bool) → word text t ≡ b → b || one_of texts t ≡ true → (one_of texts t ≡ true → word other t ≡ false) → word other t ≡ false
+      cases true k f later = same_word text other t k ∙ (or_false (bytes_eq text other) (has_text texts other) h).0
+      cases false k f later = later f
 
 -- ---- what a rule begins with
 
@@ -175,7 +176,8 @@ pub avoids-placed : {A : Type 0} (r : Rule A) (P : Lexeme → Bool) → Avoids r
 avoids-placed r P avoids = record { stops = λ used rest a h. avoids.stops used rest a.1 h.0 }
 
 -- the alternatives of a branch begin with its word or with those of the others
-pub starts-branch : {A : Type 0} (text : List ℕ) (texts : List (List ℕ)) (r s : Rule A) → StartsWith s (one_of texts) → StartsWith (rule.branch text r s) (one_of (text ∷ texts))
+pub starts-branch : {A : Type 0} (text : List ℕ) (texts : List (List ℕ)) (r s : Rule A) → StartsWith s (one_of texts)
+    → StartsWith (rule.branch text r s) (one_of (text ∷ texts))
 starts-branch text texts r s starts =
     starts-or _ _ (one_of (text ∷ texts))
     (starts-wider _ (word text) (one_of (text ∷ texts)) (starts-then _ _ (word text) (starts-word text)) (λ t e. either (word text t) (one_of texts t) (inl e)))

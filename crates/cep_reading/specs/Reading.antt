@@ -77,7 +77,8 @@ unless first why p = choose first (stop why) p
 abbrev pub branch : {A : Type 0} → List ℕ → Reader A → Reader A → Reader A
 branch text p q = choose (word text) (keyword text >> p) q
 
--- As many links as there are, each behind a token `lead` and added to what was built before, which says what may come next. One that begins with a token `ends` is the last.
+-- As many links as there are, each behind a token `lead` and added to what was built before, which says what may come next. One that begins with a
+-- token `ends` is the last.
 unfoldable pub links : {S A E : Type 0} → ℕ → List ℕ → List ℕ → (S → A → S) → (S → Reader A) → Reader E → S → Reader (S × Option E)
 links zero lead ends next p e s = stop Spent
 links (suc n) lead ends next p e s =

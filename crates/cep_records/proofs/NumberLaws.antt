@@ -50,7 +50,8 @@ size_in-full text i here h =
 -- digits within the limit
 pub size_in-is : (text : List ℕ) → 0 < length text → all_ascii_digits text ≡ true → digits_value 10 text ≤ 2 ^ 63 → size_in text ≡ Some (digits_value 10 text)
 size_in-is text some-byte digits small =
-    ap (λ (b : Bool). cond ((b && all_ascii_digits text) && leb (digits_value 10 text) (2 ^ 63)) (Some (digits_value 10 text)) None) (some (length text) some-byte)
+    ap (λ (b : Bool). cond ((b && all_ascii_digits text) && leb (digits_value 10 text) (2 ^ 63)) (Some (digits_value 10 text)) None)
+    (some (length text) some-byte)
     ∙ ap (λ (b : Bool). cond (b && leb (digits_value 10 text) (2 ^ 63)) (Some (digits_value 10 text)) None) digits
     ∙ ap (λ (b : Bool). cond b (Some (digits_value 10 text)) None) (up-to (digits_value 10 text) small)
 
@@ -66,7 +67,8 @@ digit-is b low high = grind (arith, nat_tests)
 is-digit : (b : ℕ) → 48 ≤ b → b ≤ 57 → is_ascii_digit b ≡ true
 is-digit b low high = grind (arith, nat_tests)
 
-digit-next : (text : List ℕ) (i : ℕ) → i < length text → all_ascii_digits (take i text) ≡ true → 48 ≤ get_or text i 0 → get_or text i 0 ≤ 57 → all_ascii_digits (take (suc i) text) ≡ true
+digit-next : (text : List ℕ) (i : ℕ) → i < length text → all_ascii_digits (take i text) ≡ true → 48 ≤ get_or text i 0 → get_or text i 0 ≤ 57
+    → all_ascii_digits (take (suc i) text) ≡ true
 digit-next [] i here all low high = absurd (omega arith)
 digit-next (c ∷ text) zero here all low high = ap (λ (b : Bool). b && true) (is-digit c low high)
 digit-next (c ∷ text) (suc i) here all low high =
@@ -74,7 +76,8 @@ digit-next (c ∷ text) (suc i) here all low high =
     ∙ digit-next text i (omega arith) (second_so (is_ascii_digit c) _ all) low high
 
 -- one more digit
-pub digit-more : (text : List ℕ) (i : ℕ) → i < length text → all_ascii_digits (take i text) ≡ true → 48 ≤ get_or text i 0 → get_or text i 0 ≤ 57 → all_ascii_digits (take (i + 1) text) ≡ true
+pub digit-more : (text : List ℕ) (i : ℕ) → i < length text → all_ascii_digits (take i text) ≡ true → 48 ≤ get_or text i 0 → get_or text i 0 ≤ 57
+    → all_ascii_digits (take (i + 1) text) ≡ true
 digit-more text i here all low high = rw add-one (digit-next text i here all low high)
 
 pub is-some : (n : ℕ) → eqb n 0 ≡ false → 0 < n

@@ -17,7 +17,8 @@ behind-more : (front : List Value) (number : ℕ) (v : Value) (rest : Result (Li
 behind-more front number v (Ok values) = ap Ok (sym (append_assoc front (v ∷ []) values))
 behind-more front number v (Err cause) = refl
 
-pub behind-all : (front : List Value) (number : ℕ) (fields : List Field) (texts : List (List ℕ)) → fields ≡ [] → behind front (values_in number fields texts) ≡ Ok front
+pub behind-all : (front : List Value) (number : ℕ) (fields : List Field) (texts : List (List ℕ)) → fields ≡ []
+    → behind front (values_in number fields texts) ≡ Ok front
 behind-all front number [] texts e = ap Ok (append-nil front)
 behind-all front number (field ∷ fields) texts e = cc e
 
@@ -34,7 +35,8 @@ drop-next (field ∷ fields) zero = refl
 drop-next (field ∷ fields) (suc j) = drop-next fields j
 
 step : (number i j : ℕ) (declared : List Field) (fields : List (List ℕ)) (f : Field) → i < length declared → f ≡ get_or declared i f
-    → values_in number (drop i declared) (drop j fields) ≡ value_and_values number (value_in f.kind (field_at fields j)) (values_in (number + 1) (drop (suc i) declared) (drop (suc j) fields))
+    → values_in number (drop i declared) (drop j fields)
+    ≡ value_and_values number (value_in f.kind (field_at fields j)) (values_in (number + 1) (drop (suc i) declared) (drop (suc j) fields))
 step number i j [] fields f here is = absurd (omega arith)
 step number zero j (field ∷ declared) fields f here is =
     rw (is, field-drop fields j, drop-next fields j) refl
@@ -42,7 +44,8 @@ step number (suc i) j (field ∷ declared) fields f here is = step number i j de
 
 -- the values from a place on
 pub values_in-step : (number i j k : ℕ) (declared : List Field) (fields : List (List ℕ)) (f : Field) → k ≡ j + 1 → i < length declared → f ≡ get_or declared i f
-    → values_in number (drop i declared) (drop j fields) ≡ value_and_values number (value_in f.kind (field_at fields j)) (values_in (number + 1) (drop (i + 1) declared) (drop k fields))
+    → values_in number (drop i declared) (drop j fields)
+    ≡ value_and_values number (value_in f.kind (field_at fields j)) (values_in (number + 1) (drop (i + 1) declared) (drop k fields))
 values_in-step number i j k declared fields f next here is = rw (next, add-one i, add-one j) (step number i j declared fields f here is)
 
 -- one value more before the others

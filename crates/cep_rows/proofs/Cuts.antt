@@ -90,7 +90,8 @@ first_line zero b bytes within none = any_line b bytes
     onto b [] = (b ∷ [], [], refl)
     onto b (line ∷ lines) = (b ∷ line, lines, refl)
 
-    by_test : (t : Bool) (b : ℕ) (bytes : List ℕ) → (line : List ℕ) × (others : List (List ℕ)) × ((if t then [] ∷ raw_lines bytes else onto_first b (raw_lines bytes)) ≡ line ∷ others)
+    by_test : (t : Bool) (b : ℕ) (bytes : List ℕ) → (line : List ℕ) × (others : List (List ℕ))
+        × ((if t then [] ∷ raw_lines bytes else onto_first b (raw_lines bytes)) ≡ line ∷ others)
     by_test true b bytes = ([], raw_lines bytes, refl)
     by_test false b bytes = onto b (raw_lines bytes)
 

@@ -15,7 +15,8 @@ pub fields_text-append : (xs ys : List (List ℕ)) → fields_text default_write
 unfolding fields_text
 fields_text-append [] ys = refl
 fields_text-append (x ∷ xs) ys =
-    ap (λ (t : List ℕ). next_field x ++ t) (fields_text-append xs ys) ∙ sym (append_assoc (next_field x) (fields_text default_writer xs) (fields_text default_writer ys))
+    ap (λ (t : List ℕ). next_field x ++ t) (fields_text-append xs ys)
+    ∙ sym (append_assoc (next_field x) (fields_text default_writer xs) (fields_text default_writer ys))
 
 pub fields_text-one : (field : List ℕ) → fields_text default_writer (field ∷ []) ≡ next_field field
 unfolding fields_text
@@ -38,10 +39,12 @@ row-from kind (field ∷ fields) plain some = rw plain (append_assoc kind (field
 
 -- a row, from the three pieces that are appended
 pub row-is : (base kind first second third : List ℕ) (fields : List (List ℕ)) → needs_quotes default_writer kind ≡ false → eqb (length kind) 0 ≡ false
-    → first ≡ base ++ kind → second ≡ first ++ fields_text default_writer fields → third ≡ second ++ 10 ∷ [] → third ≡ base ++ row_text default_writer (kind ∷ fields)
+    → first ≡ base ++ kind → second ≡ first ++ fields_text default_writer fields → third ≡ second ++ 10 ∷ []
+    → third ≡ base ++ row_text default_writer (kind ∷ fields)
 row-is base kind first second third fields plain some a b c =
     c
-    ∙ ap (λ (t : List ℕ). t ++ 10 ∷ []) (b ∙ ap (λ (t : List ℕ). t ++ fields_text default_writer fields) a ∙ append_assoc base kind (fields_text default_writer fields))
+    ∙ ap (λ (t : List ℕ). t ++ 10 ∷ []) (b ∙ ap (λ (t : List ℕ). t ++ fields_text default_writer fields) a
+    ∙ append_assoc base kind (fields_text default_writer fields))
     ∙ append_assoc base (kind ++ fields_text default_writer fields) (10 ∷ [])
     ∙ ap (λ (t : List ℕ). base ++ t) (append_assoc kind (fields_text default_writer fields) (10 ∷ []))
     ∙ ap (λ (t : List ℕ). base ++ t) (sym (row-from kind fields plain some))

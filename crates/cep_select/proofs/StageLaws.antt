@@ -35,12 +35,15 @@ has_events-more (x ∷ xs) event = refl
 
 -- ---- the events of a stage, one entry after another
 
-taken_for-yes : (stage : ℕ) (list : List Taken) (t : Taken) → (t.stage == stage) ≡ true → taken_for stage (list ++ t ∷ []) ≡ taken_for stage list ++ t.event ∷ []
+taken_for-yes : (stage : ℕ) (list : List Taken) (t : Taken) → (t.stage == stage) ≡ true
+    → taken_for stage (list ++ t ∷ []) ≡ taken_for stage list ++ t.event ∷ []
 taken_for-yes stage [] t h = ap (λ (b : Bool). map (λ (t : Taken). t.event) (if b then t ∷ [] else [])) h
 taken_for-yes stage (x ∷ list) t h = go (x.stage == stage) (taken_for-yes stage list t h) where
   go : (b : Bool) → taken_for stage (list ++ t ∷ []) ≡ taken_for stage list ++ t.event ∷ []
-      → map (λ (t : Taken). t.event) (if b then x ∷ filter (λ (t : Taken). t.stage == stage) (list ++ t ∷ []) else filter (λ (t : Taken). t.stage == stage) (list ++ t ∷ []))
-      ≡ map (λ (t : Taken). t.event) (if b then x ∷ filter (λ (t : Taken). t.stage == stage) list else filter (λ (t : Taken). t.stage == stage) list) ++ t.event ∷ []
+      → map (λ (t : Taken). t.event) (if b then x ∷ filter (λ (t : Taken). t.stage == stage) (list ++ t ∷ []) else filter
+      (λ (t : Taken). t.stage == stage) (list ++ t ∷ []))
+      ≡ map (λ (t : Taken). t.event) (if b then x ∷ filter (λ (t : Taken). t.stage == stage) list else filter (λ (t : Taken). t.stage == stage) list)
+      ++ t.event ∷ []
   go true later = ap (λ (l : List Event). x.event ∷ l) later
   go false later = later
 
@@ -48,7 +51,8 @@ taken_for-no : (stage : ℕ) (list : List Taken) (t : Taken) → (t.stage == sta
 taken_for-no stage [] t h = ap (λ (b : Bool). map (λ (t : Taken). t.event) (if b then t ∷ [] else [])) h
 taken_for-no stage (x ∷ list) t h = go (x.stage == stage) (taken_for-no stage list t h) where
   go : (b : Bool) → taken_for stage (list ++ t ∷ []) ≡ taken_for stage list
-      → map (λ (t : Taken). t.event) (if b then x ∷ filter (λ (t : Taken). t.stage == stage) (list ++ t ∷ []) else filter (λ (t : Taken). t.stage == stage) (list ++ t ∷ []))
+      → map (λ (t : Taken). t.event) (if b then x ∷ filter (λ (t : Taken). t.stage == stage) (list ++ t ∷ []) else filter
+      (λ (t : Taken). t.stage == stage) (list ++ t ∷ []))
       ≡ map (λ (t : Taken). t.event) (if b then x ∷ filter (λ (t : Taken). t.stage == stage) list else filter (λ (t : Taken). t.stage == stage) list)
   go true later = ap (λ (l : List Event). x.event ∷ l) later
   go false later = later
@@ -94,7 +98,8 @@ field-front false name rows is plain =
     ∙ sym (append-nil (44 ∷ name ++ 61 ∷ rows))
 field-front true name rows is plain =
     next_field-quoted (name ++ 61 ∷ rows) (needs-append name (61 ∷ rows) ∙ ap (λ (b : Bool). b || needs_quotes default_writer (61 ∷ rows)) (sym is))
-    ∙ ap (λ (t : List ℕ). 44 ∷ 34 ∷ t ++ 34 ∷ []) (escaped-append name (61 ∷ rows) ∙ ap (λ (t : List ℕ). escaped default_writer name ++ t) (escaped-plain (61 ∷ rows) plain))
+    ∙ ap (λ (t : List ℕ). 44 ∷ 34 ∷ t ++ 34 ∷ [])
+    (escaped-append name (61 ∷ rows) ∙ ap (λ (t : List ℕ). escaped default_writer name ++ t) (escaped-plain (61 ∷ rows) plain))
 
 -- a stage, from its front and the quote behind it
 stage-is : (quoted : Bool) (name : List ℕ) (events : List Event) → quoted ≡ needs_quotes default_writer name
@@ -104,8 +109,10 @@ stage-is quoted name (event ∷ events) is =
     fields_text-one (name ++ 61 ∷ rows_text (event ∷ events)) ∙ field-front quoted name (rows_text (event ∷ events)) is (plain-rows (event ∷ events))
 
 -- a stage behind other text
-pub stage-behind : (base first last name : List ℕ) (events : List Event) (quoted behind : Bool) → quoted ≡ needs_quotes default_writer name → behind ≡ has_events events
-    → first ≡ base ++ stage_front quoted name events → last ≡ first ++ stage_back behind quoted → last ≡ base ++ fields_text default_writer (named_rows name events)
+pub stage-behind : (base first last name : List ℕ) (events : List Event) (quoted behind : Bool) → quoted ≡ needs_quotes default_writer name
+    → behind ≡ has_events events
+    → first ≡ base ++ stage_front quoted name events → last ≡ first ++ stage_back behind quoted
+    → last ≡ base ++ fields_text default_writer (named_rows name events)
 stage-behind base first last name events quoted behind is some front back =
     back ∙ ap (λ (t : List ℕ). t ++ stage_back behind quoted) front ∙ append_assoc base (stage_front quoted name events) (stage_back behind quoted)
     ∙ ap (λ (b : Bool). base ++ (stage_front quoted name events ++ stage_back b quoted)) some
@@ -125,7 +132,8 @@ stages_from-push n (x ∷ stages) s list =
 -- one more stage
 pub stage-more : (base text new : List ℕ) (i : ℕ) (stages : List Stage) (s : Stage) (list : List Taken)
     → i < length stages → s ≡ get_or stages i s
-    → text ≡ base ++ fields_text default_writer (stages_from 0 (take i stages) list) → new ≡ text ++ fields_text default_writer (named_rows s.name (taken_for i list))
+    → text ≡ base ++ fields_text default_writer (stages_from 0 (take i stages) list)
+    → new ≡ text ++ fields_text default_writer (named_rows s.name (taken_for i list))
     → new ≡ base ++ fields_text default_writer (stages_from 0 (take (i + 1) stages) list)
 stage-more base text new i stages s list here is text_is new_is =
     let more : take (i + 1) stages ≡ take i stages ++ s ∷ [] = take_more stages i s here ∙ ap (λ (x : Stage). take i stages ++ x ∷ []) (sym is) in
@@ -133,7 +141,8 @@ stage-more base text new i stages s list here is text_is new_is =
     let last = named_rows s.name (taken_for i list) in
     let size : 0 + length (take i stages) ≡ i = omega (arith, length-take-le i stages (omega arith)) in
     let e : stages_from 0 (take (i + 1) stages) list ≡ before ++ last =
-    ap (λ (l : List Stage). stages_from 0 l list) more ∙ stages_from-push 0 (take i stages) s list ∙ ap (λ (k : ℕ). before ++ named_rows s.name (taken_for k list)) size in
+    ap (λ (l : List Stage). stages_from 0 l list) more ∙ stages_from-push 0 (take i stages) s list
+    ∙ ap (λ (k : ℕ). before ++ named_rows s.name (taken_for k list)) size in
     new_is
     ∙ ap (λ (x : List ℕ). x ++ fields_text default_writer last) text_is
     ∙ append_assoc base (fields_text default_writer before) (fields_text default_writer last)

@@ -3,7 +3,7 @@ use Rattle.std.proofs.Common.{◌≡◌, ℕ, zero, suc, ◌+◌, ◌<◌, ◌�
 use Rattle.std.specs.Prelude.{nat_lt}
 use Rattle.std.proofs.lemmas.List.{append-nil, take_all, take_at}
 use Rattle.std.proofs.lemmas.Bool.Decides.{nat_tests}
-use Rattle.cep_session.specs.Meaning.{Meaning, line_refusal, first_of_two, with_row, first_refused, front_if, sound_front, sofar_from, sofar, verdict_by, verdict}
+use Rattle.cep_session.specs.Meaning.{Flow, Meaning, line_refusal, first_of_two, with_row, first_refused, front_if, sound_front, sofar_from, sofar, verdict_by, verdict}
 use Rattle.cep_rows.specs.declared.cause.RowCause.{RowCause}
 use Rattle.cep_session.specs.declared.status.Status.TheVariants.{Done, BadRow, TooManyRows}
 
@@ -19,7 +19,7 @@ no_row row (Some cause) none = absurd (cc)
 push_before : (before : List (List ℕ)) (line : List ℕ) (lines : List (List ℕ)) → (before ++ line ∷ []) ++ lines ≡ before ++ line ∷ lines
 push_before before line lines = append_assoc before (line ∷ []) lines
 
-pub first_refused-append : (m : Meaning) (before xs ys : List (List ℕ)) → first_refused m before xs ≡ None
+pub first_refused-append : {U : Type 0} (m : Meaning U) (before xs ys : List (List ℕ)) → first_refused m before xs ≡ None
     → first_refused m before (xs ++ ys) ≡ first_refused m (before ++ xs) ys
 first_refused-append m before [] ys none = ap (λ (b : List (List ℕ)). first_refused m b ys) (sym (append-nil before))
 first_refused-append m before (line ∷ xs) ys none =
@@ -28,7 +28,7 @@ first_refused-append m before (line ∷ xs) ys none =
     ∙ first_refused-append m (before ++ line ∷ []) xs ys parts.1
     ∙ ap (λ (b : List (List ℕ)). first_refused m b ys) (push_before before line xs)
 
-pub sound_front-append : (m : Meaning) (before xs ys : List (List ℕ)) → first_refused m before xs ≡ None
+pub sound_front-append : {U : Type 0} (m : Meaning U) (before xs ys : List (List ℕ)) → first_refused m before xs ≡ None
     → sound_front m before (xs ++ ys) ≡ xs ++ sound_front m (before ++ xs) ys
 sound_front-append m before [] ys none = ap (λ (b : List (List ℕ)). sound_front m b ys) (sym (append-nil before))
 sound_front-append m before (line ∷ xs) ys none =
@@ -38,15 +38,15 @@ sound_front-append m before (line ∷ xs) ys none =
     ∙ ap (λ (ls : List (List ℕ)). line ∷ ls) (sound_front-append m (before ++ line ∷ []) xs ys parts.1)
     ∙ ap (λ (b : List (List ℕ)). line ∷ xs ++ sound_front m b ys) (push_before before line xs)
 
-pub sofar_from-append : (m : Meaning) (before xs ys : List (List ℕ))
-    → sofar_from m before (xs ++ ys) ≡ sofar_from m before xs ++ sofar_from m (before ++ xs) ys
-sofar_from-append m before [] ys = ap (λ (b : List (List ℕ)). sofar_from m b ys) (sym (append-nil before))
-sofar_from-append m before (line ∷ xs) ys =
-    ap (λ (l : List ℕ). m.caused before line ++ l) (sofar_from-append m (before ++ line ∷ []) xs ys)
-    ∙ sym (append_assoc (m.caused before line) (sofar_from m (before ++ line ∷ []) xs) (sofar_from m ((before ++ line ∷ []) ++ xs) ys))
-    ∙ ap (λ (b : List (List ℕ)). (m.caused before line ++ sofar_from m (before ++ line ∷ []) xs) ++ sofar_from m b ys) (push_before before line xs)
+pub sofar_from-append : {A : Type 0} (flow : Flow A) (before xs ys : List (List ℕ))
+    → sofar_from flow before (xs ++ ys) ≡ sofar_from flow before xs ++ sofar_from flow (before ++ xs) ys
+sofar_from-append flow before [] ys = ap (λ (b : List (List ℕ)). sofar_from flow b ys) (sym (append-nil before))
+sofar_from-append flow before (line ∷ xs) ys =
+    ap (λ l. flow.caused before line ++ l) (sofar_from-append flow (before ++ line ∷ []) xs ys)
+    ∙ sym (append_assoc (flow.caused before line) (sofar_from flow (before ++ line ∷ []) xs) (sofar_from flow ((before ++ line ∷ []) ++ xs) ys))
+    ∙ ap (λ (b : List (List ℕ)). (flow.caused before line ++ sofar_from flow (before ++ line ∷ []) xs) ++ sofar_from flow b ys) (push_before before line xs)
 
-module _ (m : Meaning) (lines : List (List ℕ)) (sound : first_refused m [] lines ≡ None) where
+module _ {U : Type 0} (m : Meaning U) (lines : List (List ℕ)) (sound : first_refused m [] lines ≡ None) where
   -- a sound line more
   pub sound-push : (line : List ℕ) → line_refusal m lines line ≡ None → first_refused m [] (lines ++ line ∷ []) ≡ None
   sound-push line none =
@@ -67,9 +67,10 @@ module _ (m : Meaning) (lines : List (List ℕ)) (sound : first_refused m [] lin
       sound_front-append m [] lines (line ∷ others) sound
       ∙ ap (λ (r : Option RowCause). lines ++ front_if r line (sound_front m (lines ++ line ∷ []) others)) none
 
-pub sofar-push : (m : Meaning) (lines : List (List ℕ)) (line : List ℕ) → sofar m (lines ++ line ∷ []) ≡ sofar m lines ++ m.caused lines line
-sofar-push m lines line =
-    sofar_from-append m [] lines (line ∷ []) ∙ ap (λ (l : List ℕ). sofar m lines ++ l) (append-nil (m.caused lines line))
+pub sofar-push : {A : Type 0} (flow : Flow A) (lines : List (List ℕ)) (line : List ℕ)
+    → sofar flow (lines ++ line ∷ []) ≡ sofar flow lines ++ flow.caused lines line
+sofar-push flow lines line =
+    sofar_from-append flow [] lines (line ∷ []) ∙ ap (λ l. sofar flow lines ++ l) (append-nil (flow.caused lines line))
 
 -- a front of some lines that reaches past these
 pub take_past : (lines : List (List ℕ)) (line : List ℕ) (others : List (List ℕ)) (n : ℕ) → length lines < n
@@ -95,7 +96,7 @@ not_below : (a b : ℕ) → b ≤ a → nat_lt a b ≡ false
 not_below a b above = grind (arith, nat_tests)
 
 -- a refused line is the verdict
-pub verdict-refused : (m : Meaning) (allowed : ℕ) (all lines : List (List ℕ)) (line : List ℕ) (others : List (List ℕ)) (cause : RowCause)
+pub verdict-refused : {U : Type 0} (m : Meaning U) (allowed : ℕ) (all lines : List (List ℕ)) (line : List ℕ) (others : List (List ℕ)) (cause : RowCause)
     → all ≡ lines ++ line ∷ others → first_refused m [] lines ≡ None → length lines < allowed → line_refusal m lines line ≡ Some cause
     → verdict m allowed all ≡ BadRow (length lines + 1) cause
 verdict-refused m allowed all lines line others cause is sound few refused =
@@ -105,7 +106,7 @@ verdict-refused m allowed all lines line others cause is sound few refused =
     ap (λ (f : Option (ℕ × RowCause)). verdict_by f (nat_lt allowed (length all))) first
 
 -- sound lines, and one past those that are allowed
-pub verdict-many : (m : Meaning) (allowed : ℕ) (all lines : List (List ℕ)) (line : List ℕ) (others : List (List ℕ))
+pub verdict-many : {U : Type 0} (m : Meaning U) (allowed : ℕ) (all lines : List (List ℕ)) (line : List ℕ) (others : List (List ℕ))
     → all ≡ lines ++ line ∷ others → first_refused m [] lines ≡ None → length lines ≡ allowed → verdict m allowed all ≡ TooManyRows
 verdict-many m allowed all lines line others is sound many =
     let front : take allowed all ≡ lines = ap (take allowed) is ∙ take_at lines (line ∷ others) allowed many in
@@ -115,7 +116,8 @@ verdict-many m allowed all lines line others is sound many =
     ∙ ap (λ (t : Bool). if t then TooManyRows else Done) more
 
 -- sound lines, not more than are allowed
-pub verdict-done : (m : Meaning) (allowed : ℕ) (all : List (List ℕ)) → first_refused m [] all ≡ None → length all ≤ allowed → verdict m allowed all ≡ Done
+pub verdict-done : {U : Type 0} (m : Meaning U) (allowed : ℕ) (all : List (List ℕ)) → first_refused m [] all ≡ None → length all ≤ allowed
+    → verdict m allowed all ≡ Done
 verdict-done m allowed all sound few =
     ap (λ (ls : List (List ℕ)). verdict_by (first_refused m [] ls) (nat_lt allowed (length all))) (take_all allowed all few)
     ∙ ap (λ (f : Option (ℕ × RowCause)). verdict_by f (nat_lt allowed (length all))) sound

@@ -1,8 +1,10 @@
 -- How a run's ending and its status tell of one another, and how a program ends that never ran.
 use Rattle.std.proofs.Common.{◌≡◌, ◌≢◌, inl, ℕ, List, [], Option, Some, None, refl, sym, ◌∙◌, ap}
-use Rattle.std.proofs.lemmas.List.{append-nil}
+use Rattle.std.proofs.KnownBytes.{Appends-nil}
+use Rattle.told_list.proofs.GrowsLaws.{Grows-nil}
 use Rattle.cep_session.specs.Ending.{status_of}
-use Rattle.cep_session.specs.Meaning.{Meaning}
+use Rattle.cep_session.specs.Handling.{Given}
+use Rattle.cep_session.specs.Meaning.{Flow, Meaning}
 use Rattle.cep_session.specs.Outcome.{Outcome}
 use Rattle.cep_session.specs.Progress.{Ended}
 use Rattle.cep_session.specs.declared.ending.Ending.{Ending}
@@ -43,21 +45,23 @@ ran end = (
   λ code place is. let none : Some end ≡ None = sym (told end) ∙ ap ending_of is in cc,
 )
 
-module _ (m : Meaning) (allowed : ℕ) where
-  -- nothing was read or written
-  pub untouched : (status : Status) (all before : List ℕ) (left taken : Option (List ℕ)) → left ≡ Some all → taken ≡ Some before
-      → Outcome m allowed status all [] [] → Ended m allowed status all before left taken
-  untouched status all before left taken left_is taken_is outcome =
+module _ {U : Type 0} (m : Meaning U) (allowed : ℕ) where
+  -- nothing was read, written or shown
+  pub untouched : (status : Status) (all : List ℕ) (left : Option (List ℕ)) (now : Given U) → left ≡ Some all
+      → ((A : Type 0) (flow : Flow A) → Outcome m flow allowed status all [] []) → Ended m allowed status all left now now
+  untouched status all left now left_is outcome =
       record {
         bytes = [];
         rest = all;
         text = [];
+        list = [];
         input = refl;
         left_is = left_is;
-        output = taken_is ∙ ap (λ (l : List ℕ). Some l) (sym (append-nil before));
-        outcome = outcome;
+        added = record { wrote = Appends-nil now.taken; showed = Grows-nil now.shown };
+        written = outcome ℕ m.text;
+        shown = outcome U m.shown;
       }
 
   -- which want of memory before the run allows
-  pub nothing_owed : (all : List ℕ) → Outcome m allowed statuses.NoMemory all [] []
-  nothing_owed all = inl (_, refl)
+  pub nothing_owed : (all : List ℕ) (A : Type 0) (flow : Flow A) → Outcome m flow allowed statuses.NoMemory all [] []
+  nothing_owed all A flow = inl (_, refl)

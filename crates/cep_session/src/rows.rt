@@ -1,5 +1,6 @@
 ghost use Rattle.std.specs.Prelude.{◌≡◌, ◌↔◌, ◌+◌, ◌<◌, ◌≤◌, List, ℕ, length, IsTrue, OnOk};
 ghost use Rattle.cep_outside.specs.Outside.{Rose};
+ghost use Rattle.cep_session.specs.Handling.{given};
 ghost use Rattle.cep_session.specs.Meaning.{Meaning};
 ghost use Rattle.cep_session.specs.Rows.{Stands, IsTaken, IsFinished};
 
@@ -15,7 +16,7 @@ pub(crate) struct Rows<H> {
     pub(crate) allowed: u32,
 }
 
-impl<H: Handler> Rows<H> {
+impl<H: Drop> Rows<H> {
     pub(crate) fn is_full(&self) -> bool
         ensures { IsTrue result ↔ (self.now.handled ≡ self.now.allowed) }
     {
@@ -23,9 +24,11 @@ impl<H: Handler> Rows<H> {
     }
 
     /// The answer where the next line is too long.
-    pub(crate) fn too_long(&self) -> Ending
+    pub(crate) fn too_long<X, U>(&self) -> Ending
+    where
+        H: Handler<X, U>,
         requires { self.now.handled < self.now.allowed }
-        ensures { (m : Meaning) (lines : List (List ℕ)) → Stands H.stands m lines self.now → result ≡ Ending.BadRow (self.now.handled + 1) m.too_long }
+        ensures { (m : Meaning U) (lines : List (List ℕ)) → Stands H.stands m lines self.now → result ≡ Ending.BadRow (self.now.handled + 1) m.too_long }
     {
         let cause = self.handler.too_long();
         self.refused(cause)
@@ -40,19 +43,27 @@ impl<H: Handler> Rows<H> {
         Ending::BadRow { row, cause }
     }
 
-    /// Handles one line more and writes the text that it causes. After an `Err` the run is over.
-    pub(crate) fn take<K: Sink>(&mut self, output: &mut K, line: &Line) -> Result<(), Ending>
+    /// Handles one line more, writes the text that it causes and shows what it causes besides. After an `Err` the run is over.
+    pub(crate) fn take<K: Sink, X, U>(
+        &mut self,
+        output: &mut K,
+        beside: &mut X,
+        line: &Line,
+    ) -> Result<(), Ending>
+    where
+        H: Handler<X, U>,
         requires short { length line.now ≤ 65536 }
         requires room { self.old.handled < self.old.allowed }
-        requires ready { (m : Meaning) × (lines : List (List ℕ)) × Stands H.stands m lines self.old }
-        ensures taken { (m : Meaning) (lines : List (List ℕ)) → Stands H.stands m lines self.old
-            → IsTaken m lines line.now (λ now. Stands H.stands m now self.new) (K.taken output.old) (K.taken output.new) result }
+        requires ready { (m : Meaning U) × (lines : List (List ℕ)) × Stands H.stands m lines self.old }
+        ensures taken { (m : Meaning U) (lines : List (List ℕ)) → Stands H.stands m lines self.old
+            → IsTaken m lines line.now (λ now. Stands H.stands m now self.new)
+            (given (K.taken output.old) (H.shown beside.old)) (given (K.taken output.new) (H.shown beside.new)) result }
         ensures count { OnOk result (self.new.handled ≡ self.old.handled + 1) }
         ensures allowed { self.new.allowed ≡ self.old.allowed }
         ensures later { K.faults output.old ≤ K.faults output.new }
         ensures cause { result ≡ Err Ending.WriteFault → Rose (K.faults output.old) (K.faults output.new) }
     {
-        match self.handler.line(line, output) {
+        match self.handler.line(line, output, beside) {
             Ok(()) => {
                 self.handled += 1;
                 Ok(())
@@ -63,11 +74,13 @@ impl<H: Handler> Rows<H> {
         }
     }
 
-    /// Writes what is owed once the lines are all.
-    pub(crate) fn finish<K: Sink>(self, output: &mut K) -> Ending
-        requires { (m : Meaning) × (lines : List (List ℕ)) × Stands H.stands m lines self }
-        ensures finished { (m : Meaning) (lines : List (List ℕ)) → Stands H.stands m lines self
-            → IsFinished m lines (K.taken output.old) (K.taken output.new) result }
+    /// Writes and shows what is owed once the lines are all.
+    pub(crate) fn finish<K: Sink, X, U>(self, output: &mut K, beside: &mut X) -> Ending
+    where
+        H: Handler<X, U>,
+        requires { (m : Meaning U) × (lines : List (List ℕ)) × Stands H.stands m lines self }
+        ensures finished { (m : Meaning U) (lines : List (List ℕ)) → Stands H.stands m lines self
+            → IsFinished m lines (given (K.taken output.old) (H.shown beside.old)) (given (K.taken output.new) (H.shown beside.new)) result }
         ensures later { K.faults output.old ≤ K.faults output.new }
         ensures cause { result ≡ Ending.WriteFault → Rose (K.faults output.old) (K.faults output.new) }
         ensures no_read { result ≡ Ending.ReadFault → ⊥ }
@@ -77,7 +90,7 @@ impl<H: Handler> Rows<H> {
             handled: _,
             allowed: _,
         } = self;
-        match handler.end(output) {
+        match handler.end(output, beside) {
             Ok(()) => Ending::Done,
             Err(EndFault::NoMemory) => Ending::NoMemory,
             Err(EndFault::Unwritten) => Ending::WriteFault,

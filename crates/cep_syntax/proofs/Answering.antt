@@ -107,7 +107,8 @@ module _ (n : ℕ) (ts : Left) (enough : length ts < n) where
       surely n ts (Err (Greedy, t ∷ rest)) enough
       (subst (λ l. Unless (file n l) (Err (Greedy, t ∷ rest))) (sym is) ((warns-file {n = n}).given h.1.0 before rest t h.1.1 h.0))
 
-  not_greedy : (o : Outcome File) (before rest : Left) (t : Lexeme) → ts ≡ before ++ t ∷ rest → file n ts ≡ o → (o ≡ Err (Greedy, t ∷ rest) → ⊥) → IsGreedy before t → ⊥
+  not_greedy : (o : Outcome File) (before rest : Left) (t : Lexeme) → ts ≡ before ++ t ∷ rest → file n ts ≡ o → (o ≡ Err (Greedy, t ∷ rest) → ⊥)
+      → IsGreedy before t → ⊥
   not_greedy o before rest t is e other h = other (sym e ∙ warned before rest t is h)
 
   is_greedy_at : (t : Lexeme) (rest : Left) → file n ts ≡ Err (Greedy, t ∷ rest) → IsGreedyAt ts t.place

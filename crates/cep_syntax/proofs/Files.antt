@@ -41,7 +41,8 @@ pub starts-semicolon : {B : Type 0} (s : Unit {0} → Rule B) → StartsWith (ru
 starts-semicolon s = starts-then (rule.sign (codes ";")) s (symbol (codes ";")) (starts-symbol (codes ";"))
 
 -- an alternative of which each word begins with one of these begins with no other
-pub avoids-words : {A : Type 0} (texts : List (List ℕ)) (other : List ℕ) (r : Rule A) → has_text texts other ≡ false → StartsWith r (one_of texts) → Avoids r (word other)
+pub avoids-words : {A : Type 0} (texts : List (List ℕ)) (other : List ℕ) (r : Rule A) → has_text texts other ≡ false → StartsWith r (one_of texts)
+    → Avoids r (word other)
 avoids-words texts other r apart starts = avoids_by r (one_of texts) (word other) starts (λ t e. same_one_of texts other t apart e)
 
 -- ---- single tokens
@@ -49,7 +50,9 @@ avoids-words texts other r apart starts = avoids_by r (one_of texts) (word other
 pub opener_is : (t : Lexeme) (o : OpenKind) → opener t ≡ Some o → is_opener t ≡ true
 unfolding opener
 opener_is t o e = cases (word (codes "next") t) (word (codes "followedBy") t) (word (codes "followedByAny") t) (word (codes "notNext") t) (word (codes "notFollowedBy") t) e where
-  cases : (a b c d f : Bool) → cond a (Some Next) (cond b (Some FollowedBy) (cond c (Some FollowedByAny) (cond d (Some NotNext) (cond f (Some NotFollowedBy) None)))) ≡ Some o → a || (b || (c || (d || f))) ≡ true
+  cases : (a b c d f : Bool)
+      → cond a (Some Next) (cond b (Some FollowedBy) (cond c (Some FollowedByAny) (cond d (Some NotNext) (cond f (Some NotFollowedBy) None))))
+      ≡ Some o → a || (b || (c || (d || f))) ≡ true
   cases true b c d f h = refl
   cases false true c d f h = refl
   cases false false true d f h = refl
@@ -363,7 +366,9 @@ module _ {q : Bool} {n : ℕ} where
   unfolding grammar.fields reader.fields
   exact-fields =
       Exact-choose is_any_word _ _ _ _ goes_on_fields
-      (Exact-last _ _ _ _ goes_on_fields exact-field (λ first. Exact-made (λ more. first ∷ more) _ _ goes_on_fields (Exact-narrower _ _ comma goes_on_fields exact-more_fields (λ ts e. (field_parts ts e).0))))
+      (Exact-last _ _ _ _ goes_on_fields exact-field
+      (λ first. Exact-made (λ more. first ∷ more) _ _ goes_on_fields
+      (Exact-narrower _ _ comma goes_on_fields exact-more_fields (λ ts e. (field_parts ts e).0))))
       (Exact-pure [] goes_on_fields)
       (λ k. starts-then _ _ is_any_word starts-field)
       (λ k used rest a h stops. subst (λ ts. Stops is_any_word (ts ++ rest)) (sym h.0) (field_parts rest stops).1)
@@ -440,7 +445,8 @@ module _ {q : Bool} {n : ℕ} where
       (λ k more. starts-semicolon _) (λ t e. neither (comma t) (goes_on t) (same_symbol (codes ";") (codes ",") t e) (semicolon_ends t e)))
       (λ k first all back rest h stops.
       let is : back ++ rest ≡ h.front ++ (h.back ++ rest) = ap (λ ts. ts ++ rest) h.is ∙ append_assoc h.front h.back rest in
-      subst (Stops goes_on) (sym is) (more_shown-stops k h.front (h.back ++ rest) h.value h.first (semicolon_behind (h.back ++ rest) ((starts-semicolon _).begins h.back rest all h.second)))))
+      subst (Stops goes_on) (sym is) (more_shown-stops k h.front (h.back ++ rest) h.value h.first
+      (semicolon_behind (h.back ++ rest) ((starts-semicolon _).begins h.back rest all h.second)))))
 
   pub exact-maybe_skip : Exact q n n (λ _. rule.maybe grammar.skip) (λ _. reader.maybe_skip) (word (codes "skip"))
   unfolding reader.maybe_skip

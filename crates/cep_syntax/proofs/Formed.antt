@@ -86,7 +86,8 @@ is_formed-Neg x = refl
 pub at_most_greatest : (text : List ℕ) → form.is_number text ≡ true → is_number (value_of text) ≡ true
 at_most_greatest text e = (and_true _ _ (and_true _ _ e).1).1
 
-name_form : (k : TokenKind) (text : List ℕ) (place : ℕ) (a : Name) → form.has_form k text ≡ true → reading.any_word_by k text place ≡ Some a → form.is_word a.text ≡ true
+name_form : (k : TokenKind) (text : List ℕ) (place : ℕ) (a : Name) → form.has_form k text ≡ true → reading.any_word_by k text place ≡ Some a
+    → form.is_word a.text ≡ true
 name_form token.Word text place a formed e = let is : text ≡ a.text = ap (λ x. x.text) (some_is e) in subst (λ x. form.is_word x ≡ true) is formed where
   some_is : {A : Type 0} {x y : A} → Some x ≡ Some y → x ≡ y
   some_is h = cc
@@ -124,7 +125,8 @@ unfolding number
 gives-number = Gives-one number is_number (λ t n formed e. number_form t.kind t.text n formed e)
 
 constant_form : (k : TokenKind) (text : List ℕ) (node : SynNode) → form.has_form k text ≡ true → constant_by k text ≡ Some node → is_formed_node node ≡ true
-constant_form token.Number text node formed e = let is : Int (value_of text) ≡ node = cc in subst (λ x. is_formed_node x ≡ true) is (at_most_greatest text formed)
+constant_form token.Number text node formed e = let is : Int (value_of text) ≡ node = cc in
+    subst (λ x. is_formed_node x ≡ true) is (at_most_greatest text formed)
 constant_form token.Literal text node formed e = let is = some_is e in subst (λ x. is_formed_node x ≡ true) is refl where
   some_is : {A : Type 0} {x y : A} → Some x ≡ Some y → x ≡ y
   some_is h = cc
@@ -143,10 +145,12 @@ plain_node_form false false text place formed e f = both_true (form.is_word text
 plain_word_form : (text : List ℕ) (place : ℕ) → form.is_word text ≡ true → is_formed_node (plain_word text place) ≡ true
 plain_word_form text place formed = plain_node_form (bytes_eq text (codes "true")) (bytes_eq text (codes "false")) text place formed refl refl
 
-plain_form : (k : TokenKind) (text : List ℕ) (place : ℕ) (node : SynNode) → form.has_form k text ≡ true → plain_by k text place ≡ Some node → is_formed_node node ≡ true
-plain_form token.Word text place node formed e = let is : plain_word text place ≡ node = some_is e in subst (λ x. is_formed_node x ≡ true) is (plain_word_form text place formed) where
-  some_is : {A : Type 0} {x y : A} → Some x ≡ Some y → x ≡ y
-  some_is h = cc
+plain_form : (k : TokenKind) (text : List ℕ) (place : ℕ) (node : SynNode) → form.has_form k text ≡ true → plain_by k text place ≡ Some node
+    → is_formed_node node ≡ true
+plain_form token.Word text place node formed e = let is : plain_word text place ≡ node = some_is e in
+    subst (λ x. is_formed_node x ≡ true) is (plain_word_form text place formed) where
+      some_is : {A : Type 0} {x y : A} → Some x ≡ Some y → x ≡ y
+      some_is h = cc
 plain_form token.Number text place node formed e = cc
 plain_form token.Literal text place node formed e = cc
 plain_form token.Symbol text place node formed e = cc
@@ -159,7 +163,8 @@ gives-arguments CountOf =
     (λ name e. Gives-last _ _ is_formed_node (λ _. Gives-pure (Count name) is_formed_node e)))
 gives-arguments (Edge way) =
     Gives-last _ _ is_formed_node (λ _. Gives-then _ _ (λ name. is_name name.text) is_formed_node gives-stage_name
-    (λ name e. Gives-last _ _ is_formed_node (λ _. Gives-last _ _ is_formed_node (λ _. Gives-then _ _ (λ field. form.is_word field.text) is_formed_node gives-any_word
+    (λ name e. Gives-last _ _ is_formed_node (λ _. Gives-last _ _ is_formed_node
+    (λ _. Gives-then _ _ (λ field. form.is_word field.text) is_formed_node gives-any_word
     (λ field f. Gives-pure (Of way name field) is_formed_node (both_true _ _ e f))))))
 gives-arguments (Total way) =
     Gives-last _ _ is_formed_node (λ _. Gives-then _ _ (λ name. is_name name.text) is_formed_node gives-stage_name
@@ -170,14 +175,16 @@ gives-node : Gives (rule.◌or◌ (rule.◌or◌ (rule.one plain) grammar.aggreg
 unfolding plain constant
 gives-node =
     Gives-or _ _ is_formed_node
-    (Gives-or _ _ is_formed_node (Gives-one plain is_formed_node (λ t node formed e. plain_form t.kind t.text t.place node formed e)) (Gives-last _ _ is_formed_node gives-arguments))
+    (Gives-or _ _ is_formed_node (Gives-one plain is_formed_node (λ t node formed e. plain_form t.kind t.text t.place node formed e))
+    (Gives-last _ _ is_formed_node gives-arguments))
     (Gives-one constant is_formed_node (λ t node formed e. constant_form t.kind t.text node formed e))
 
 two_parts : (n : ℕ) → nat_le 2 (suc (suc n)) ≡ true
 two_parts n = grind (arith, nat_tests)
 
 -- parts that are well formed are a chain
-chain_form : {T : Type 0} (test : T → Bool) (first : Bool) (second : T) (more : List T) → first ≡ true → list_all test (second ∷ more) ≡ true → is_chain (first ∷ map test (second ∷ more)) ≡ true
+chain_form : {T : Type 0} (test : T → Bool) (first : Bool) (second : T) (more : List T) → first ≡ true → list_all test (second ∷ more) ≡ true
+    → is_chain (first ∷ map test (second ∷ more)) ≡ true
 chain_form test first second more e f =
     both_true _ _ (two_parts (length (map test more))) (both_true first _ e (list_all-map (λ part. part) test (second ∷ more) ∙ f))
 
@@ -185,11 +192,13 @@ chain_form test first second more e f =
 abbrev ChainTest : {T : Type 0} → (T → Bool) → ℕ × (SynExpr × List T) → Bool
 ChainTest test found = is_formed found.1.0 && list_all test found.1.1
 
-gives-chain : {O T : Type 0} (signs : Lexeme → Option O) (made : O → SynExpr → T) (r : Rule SynExpr) (test : T → Bool) → Gives r is_formed → ((o : O) (e : SynExpr) → is_formed e ≡ true → test (made o e) ≡ true) → Gives (grammar.chain signs made r) (ChainTest test)
+gives-chain : {O T : Type 0} (signs : Lexeme → Option O) (made : O → SynExpr → T) (r : Rule SynExpr) (test : T → Bool) → Gives r is_formed
+    → ((o : O) (e : SynExpr) → is_formed e ≡ true → test (made o e) ≡ true) → Gives (grammar.chain signs made r) (ChainTest test)
 gives-chain signs made r test operand so =
     Gives-placed _ (λ found. is_formed found.0 && list_all test found.1)
     (Gives-then r _ is_formed _ operand
-    (λ first e. Gives-then _ _ (list_all test) _ (Gives-many _ test (Gives-last _ _ test (λ o. Gives-then r _ is_formed test operand (λ x f. Gives-pure (made o x) test (so o x f)))))
+    (λ first e. Gives-then _ _ (list_all test) _
+    (Gives-many _ test (Gives-last _ _ test (λ o. Gives-then r _ is_formed test operand (λ x f. Gives-pure (made o x) test (so o x f)))))
     (λ more f. Gives-pure (first, more) _ (both_true (is_formed first) (list_all test more) e f))))
 
 product_form : (found : ℕ × (SynExpr × List SynFactor)) → ChainTest (λ f. is_formed f.expr) found ≡ true → is_formed (grammar.product_of found) ≡ true
@@ -216,11 +225,13 @@ sum_form (place, (first, second ∷ more)) e =
 
 all_form : (found : ℕ × (SynExpr × List SynExpr)) → ChainTest is_formed found ≡ true → is_formed (grammar.all_of found) ≡ true
 all_form (place, (first, [])) e = (and_true _ _ e).0
-all_form (place, (first, second ∷ more)) e = let k = and_true (is_formed first) _ e in is_formed-All (first ∷ second ∷ more) ∙ chain_form is_formed (is_formed first) second more k.0 k.1
+all_form (place, (first, second ∷ more)) e = let k = and_true (is_formed first) _ e in is_formed-All (first ∷ second ∷ more)
+    ∙ chain_form is_formed (is_formed first) second more k.0 k.1
 
 any_form : (found : ℕ × (SynExpr × List SynExpr)) → ChainTest is_formed found ≡ true → is_formed (grammar.any_of found) ≡ true
 any_form (place, (first, [])) e = (and_true _ _ e).0
-any_form (place, (first, second ∷ more)) e = let k = and_true (is_formed first) _ e in is_formed-Any (first ∷ second ∷ more) ∙ chain_form is_formed (is_formed first) second more k.0 k.1
+any_form (place, (first, second ∷ more)) e = let k = and_true (is_formed first) _ e in is_formed-Any (first ∷ second ∷ more)
+    ∙ chain_form is_formed (is_formed first) second more k.0 k.1
 
 abbrev OtherTest : ℕ × (SynExpr × Option (Cmp × SynExpr)) → Bool
 OtherTest found = is_formed found.1.0 && of_some (λ other. is_formed other.1) found.1.1
@@ -242,14 +253,17 @@ module _ (e : Rule SynExpr) (inner : Gives e is_formed) where
   gives-primary =
       Gives-or _ _ is_formed
       (Gives-last _ _ is_formed (λ _. Gives-then e _ is_formed is_formed inner (λ x h. Gives-last _ _ is_formed (λ _. Gives-pure x is_formed h))))
-      (Gives-then _ _ (λ found. is_formed_node found.1) is_formed (Gives-placed _ is_formed_node gives-node) (λ found h. Gives-pure (grammar.at_first found) is_formed (at_first_form found h)))
+      (Gives-then _ _ (λ found. is_formed_node found.1) is_formed (Gives-placed _ is_formed_node gives-node)
+      (λ found h. Gives-pure (grammar.at_first found) is_formed (at_first_form found h)))
 
   gives-unary : Gives (grammar.unary e) is_formed
   unfolding grammar.unary
   gives-unary =
       Gives-or _ _ is_formed
       (Gives-then _ _ (λ found. is_formed_node found.1) is_formed
-      (Gives-placed _ is_formed_node (Gives-last _ _ is_formed_node (λ way. Gives-then _ _ is_formed is_formed_node gives-primary (λ x h. Gives-pure (grammar.prefixed way x) is_formed_node (prefixed_form way x h)))))
+      (Gives-placed _ is_formed_node (Gives-last _ _ is_formed_node
+      (λ way. Gives-then _ _ is_formed is_formed_node gives-primary
+      (λ x h. Gives-pure (grammar.prefixed way x) is_formed_node (prefixed_form way x h)))))
       (λ found h. Gives-pure (grammar.at_first found) is_formed (at_first_form found h)))
       gives-primary
 
@@ -272,7 +286,8 @@ module _ (e : Rule SynExpr) (inner : Gives e is_formed) where
       (Gives-placed _ (λ found. is_formed found.0 && of_some (λ other. is_formed other.1) found.1)
       (Gives-then _ _ is_formed _ gives-sum
       (λ left h. Gives-then _ _ (of_some (λ other. is_formed other.1)) _
-      (Gives-maybe _ (λ other. is_formed other.1) (Gives-last _ _ (λ other. is_formed other.1) (λ way. Gives-then _ _ is_formed _ gives-sum (λ right f. Gives-pure (way, right) _ f))))
+      (Gives-maybe _ (λ other. is_formed other.1)
+      (Gives-last _ _ (λ other. is_formed other.1) (λ way. Gives-then _ _ is_formed _ gives-sum (λ right f. Gives-pure (way, right) _ f))))
       (λ other f. Gives-pure (left, other) _ (both_true (is_formed left) _ h f)))))
       (λ found h. Gives-pure (grammar.comparison_of found) is_formed (comparison_form found h))
 

@@ -60,7 +60,8 @@ modifier_is_no_opener t e =
     let p4 = same_one_of modifier_words (codes "notFollowedBy") t refl e in
     λ i. p0 i || (p1 i || (p2 i || (p3 i || p4 i)))
 
-plain-avoids : (k : ℕ) (other : List ℕ) → Avoids open_link (word other) → Avoids (modifier_link (deep k)) (word other) → Avoids (plain_link (deep k)) (word other)
+plain-avoids : (k : ℕ) (other : List ℕ) → Avoids open_link (word other) → Avoids (modifier_link (deep k)) (word other)
+    → Avoids (plain_link (deep k)) (word other)
 plain-avoids k other one two = avoids-or _ _ (word other) one two
 
 plain_no_greedy : (k : ℕ) → Avoids (plain_link (deep k)) (word (codes "greedy"))
@@ -82,7 +83,8 @@ module _ {n : ℕ} where
   exact-some_link : {q : Bool} → Exact q n n (λ k. plain_link (deep k)) (λ m. read.choose is_opener reader.open_link (reader.modifier_link m)) nothing
   exact-some_link =
       Exact-choose is_opener _ _ _ _ nothing exact-open_link exact-modifier_link
-      (λ k. starts-open_link) (λ k used rest a h stops. (avoids_by _ (one_of modifier_words) is_opener (starts-modifier_link k) modifier_is_no_opener).stops used rest a h)
+      (λ k. starts-open_link) (λ k used rest a h stops. (avoids_by _ (one_of modifier_words) is_opener (starts-modifier_link k)
+      modifier_is_no_opener).stops used rest a h)
 
   exact-plain_link : Exact false n n (λ k. plain_link (deep k)) reader.plain_link nothing
   unfolding reader.plain_link
@@ -122,11 +124,14 @@ module _ {n : ℕ} where
     sound = Sound-links (codes ".") (codes "within") added grammar.time_limit (λ b. any_link (deep (suc n)) b.fresh) (λ b. reader.any_link n b.fresh) reader.time_limit (record { kind = token.Symbol; text = codes "."; place = 0 }) refl
         (λ b. (exact-any_link b.fresh).sound) ((exact-time_limit {q = false} {n = n} {l = n}).sound) n s;
     complete = λ k. Complete-links (codes ".") (codes "within") added grammar.time_limit (λ b. any_link (deep k) b.fresh) (λ b. reader.any_link n b.fresh) reader.time_limit nothing stops_nothing
-        (λ b. (exact-any_link b.fresh).complete k) ((exact-time_limit {q = false} {n = n} {l = n}).complete k) starts-time_limit (λ b. link_no_within b.fresh k) n s;
+        (λ b. (exact-any_link b.fresh).complete k) ((exact-time_limit {q = false} {n = n} {l = n}).complete k) starts-time_limit
+        (λ b. link_no_within b.fresh k) n s;
     agrees = λ m. Agrees-links (codes ".") (codes "within") added grammar.time_limit (λ b. any_link (deep (suc n)) b.fresh) (λ b. reader.any_link n b.fresh) reader.time_limit (record { kind = token.Symbol; text = codes "."; place = 0 }) refl
-        (λ b. (exact-any_link b.fresh).sound) ((exact-time_limit {q = false} {n = n} {l = n}).sound) (λ b. reader.any_link m b.fresh) reader.time_limit (λ b. (exact-any_link b.fresh).agrees m) ((exact-time_limit {q = false} {n = n} {l = n}).agrees m) n m s;
+        (λ b. (exact-any_link b.fresh).sound) ((exact-time_limit {q = false} {n = n} {l = n}).sound) (λ b. reader.any_link m b.fresh)
+        reader.time_limit (λ b. (exact-any_link b.fresh).agrees m) ((exact-time_limit {q = false} {n = n} {l = n}).agrees m) n m s;
     lasts = Lasts-links (codes ".") (codes "within") added grammar.time_limit (λ b. any_link (deep (suc n)) b.fresh) (λ b. reader.any_link n b.fresh) reader.time_limit (record { kind = token.Symbol; text = codes "."; place = 0 }) refl
-        (λ b. (exact-any_link b.fresh).sound) ((exact-time_limit {q = false} {n = n} {l = n}).sound) n (λ b. (exact-any_link b.fresh).lasts) ((exact-time_limit {q = false} {n = n} {l = n}).lasts) s;
+        (λ b. (exact-any_link b.fresh).sound) ((exact-time_limit {q = false} {n = n} {l = n}).sound) n (λ b. (exact-any_link b.fresh).lasts)
+        ((exact-time_limit {q = false} {n = n} {l = n}).lasts) s;
     quiet = λ e. cc;
   }
 
@@ -160,7 +165,16 @@ module _ (e : Rule SynExpr) where
         value = openers_of l.value;
         is = h.is ∙ ap (λ ts. ts ++ h.back) (l.is ∙ ap (λ ts. l.front ++ ts) back_is) ∙ append_assoc l.front l.second.front h.back;
         first = links-stages e name l.front l.value l.first;
-        second = record { front = l.second.front; back = h.back; value = l.second.value; is = refl; first = l.second.first; second = subst (λ b. ended (openers_of b.0, b.1) h.back v) l.second.second.1 h.second };
+        second =
+            record {
+              front = l.second.front;
+              back = h.back;
+              value = l.second.value;
+              is = refl;
+              first = l.second.first;
+              second =
+                  subst (λ b. ended (openers_of b.0, b.1) h.back v) l.second.second.1 h.second;
+            };
       }
 
   to_links : (name : Name) (used : Left) (v : List Opener × Option PlacedNumber) → by_stages name used v → by_links name used v
@@ -177,7 +191,16 @@ module _ (e : Rule SynExpr) where
           value = k.0;
           is = refl;
           first = k.1;
-          second = record { front = h.second.front; back = []; value = h.second.value; is = sym (append-nil h.second.front); first = h.second.first; second = (refl, refl) };
+          second =
+              record {
+                front = h.second.front;
+                back = [];
+                value = h.second.value;
+                is = sym (append-nil h.second.front);
+                first =
+                    h.second.first;
+                second = (refl, refl);
+              };
         };
         second = subst (λ openers. ended (openers, h.second.value) h.second.back v) (sym k.2) h.second.second;
       }
@@ -190,7 +213,16 @@ module _ (e : Rule SynExpr) where
   up_to_stages name = rule.◌>>=◌ (stages e name) (λ _. rule.sign (codes "."))
 
   up_to_stages_of : (name : Name) (used : Left) → up_to_links name used tt → up_to_stages name used tt
-  up_to_stages_of name used h = record { front = h.front; back = h.back; value = openers_of h.value; is = h.is; first = links-stages e name h.front h.value h.first; second = h.second }
+  up_to_stages_of name used h =
+      record {
+        front = h.front;
+        back = h.back;
+        value = openers_of h.value;
+        is = h.is;
+        first = links-stages e name h.front h.value h.first;
+        second =
+            h.second;
+      }
 
   up_to_links_of : (name : Name) (used : Left) → up_to_stages name used tt → up_to_links name used tt
   up_to_links_of name used h =
@@ -202,7 +234,8 @@ unfolding grammar.pattern
 starts-pattern e = starts-then _ _ (word (codes "pattern")) (starts-word (codes "pattern"))
 
 -- the same fronts in other words
-Warns-same : {A : Type 0} (n : ℕ) (p : Reader A) (g h : ℕ → Rule (Unit {0})) → ((k : ℕ) (used : Left) → g k used tt → h k used tt) → ((k : ℕ) (used : Left) → h k used tt → g k used tt) → Warns n p g → Warns n p h
+Warns-same : {A : Type 0} (n : ℕ) (p : Reader A) (g h : ℕ → Rule (Unit {0})) → ((k : ℕ) (used : Left) → g k used tt → h k used tt)
+    → ((k : ℕ) (used : Left) → h k used tt → g k used tt) → Warns n p g → Warns n p h
 Warns-same n p g h to from warns = record {
   found = λ ts rest e. let x = warns.found ts rest e in (record { used = x.0.used; is = x.0.is; holds = to (suc n) x.0.used x.0.holds }, x.1);
   given = λ k used rest t f e. warns.given k used rest t (from k used f) e;
@@ -244,7 +277,8 @@ module _ {n : ℕ} where
       Warns-later _ _ (λ _. read.sign (codes "(")) _ nothing (exact-symbol {q = true} {n = n} {l = n} (codes "(") nothing refl) (λ _.
       Warns-later _ _ (λ _. read.one stage_name) _ nothing (exact-stage_name {q = true} {n = n} {l = n}) (λ name.
       Warns-later _ _ (λ _. read.sign (codes ")")) _ nothing (exact-symbol {q = true} {n = n} {l = n} (codes ")") nothing refl) (λ _.
-      Warns-first _ _ _ (Warns-same n _ _ _ (λ k. up_to_stages_of (deep k) name) (λ k. up_to_links_of (deep k) name) (warns-chain (started name))) (λ built. end_quiet _))
+      Warns-first _ _ _ (Warns-same n _ _ _ (λ k. up_to_stages_of (deep k) name) (λ k. up_to_links_of (deep k) name) (warns-chain (started name)))
+      (λ built. end_quiet _))
       (λ k a back rest h. none (back ++ rest)))
       (λ k a back rest h. none (back ++ rest)))
       (λ k a back rest h. none (back ++ rest)))
@@ -280,7 +314,8 @@ pattern_is_no_event (t ∷ ts) e = same_word (codes "pattern") (codes "event") t
 module _ {n : ℕ} where
   -- what comes behind the pattern
   exact-rest : {q : Bool} (types : List TypeDecl) (found : List Opener × Option PlacedNumber)
-      → Exact q n n (λ k. rule.◌>>=◌ (rule.maybe grammar.skip) (λ after. rule.◌>>=◌ (rule.maybe (grammar.select (deep k))) (λ shown. rule.pure (file_of types found after shown))))
+      → Exact q n n (λ k. rule.◌>>=◌ (rule.maybe grammar.skip)
+      (λ after. rule.◌>>=◌ (rule.maybe (grammar.select (deep k))) (λ shown. rule.pure (file_of types found after shown))))
       (λ m. read.◌>>=◌ reader.maybe_skip (λ after. read.◌>>=◌ (reader.maybe_select m) (λ shown. read.pure (file_of types found after shown)))) goes_on_file
   exact-rest types found =
       Exact-then _ _ _ _ (word (codes "skip")) goes_on_file exact-maybe_skip

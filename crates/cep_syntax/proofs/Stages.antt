@@ -85,8 +85,10 @@ module _ (expr : Rule SynExpr) where
   turns b used items = many_by added (λ c. dotted expr c.fresh) b used items
 
   -- one more modifier
-  with_modifier : (done : List Opener) (current : Opener) (m : Modifier) (front back used : Left) (built : Building) → used ≡ front ++ back → dotted_modifier front m
-      → Later done (record { how = current.how; name = current.name; of = current.of; mods = current.mods ++ m ∷ [] }) back built → Later done current used built
+  with_modifier : (done : List Opener) (current : Opener) (m : Modifier) (front back used : Left) (built : Building) → used ≡ front ++ back
+      → dotted_modifier front m
+      → Later done (record { how = current.how; name = current.name; of = current.of; mods = current.mods ++ m ∷ [] }) back built
+      → Later done current used built
   with_modifier done current m front back used built is first k = record {
     front = front ++ k.front;
     back = k.back;
@@ -95,7 +97,9 @@ module _ (expr : Rule SynExpr) where
     is = is ∙ ap (λ l. front ++ l) k.is ∙ sym (append_assoc front k.front k.back);
     mods_are = (front, k.front, refl, first, k.mods_are);
     more_are = k.more_are;
-    built_is = k.built_is ∙ ap (λ l. done ++ record { how = current.how; name = current.name; of = current.of; mods = l } ∷ k.more) (append_assoc current.mods (m ∷ []) k.mods);
+    built_is = k.built_is
+        ∙ ap (λ l. done ++ record { how = current.how; name = current.name; of = current.of; mods = l } ∷ k.more)
+        (append_assoc current.mods (m ∷ []) k.mods);
   }
 
   -- one more stage
@@ -128,7 +132,8 @@ module _ (expr : Rule SynExpr) where
   }
 
   -- a stage without `of`
-  plain_stage : (done : List Opener) (current : Opener) (used : Left) (built : Building) → current.of ≡ None → current.mods ≡ [] → Later done current used built → Opening done current used built
+  plain_stage : (done : List Opener) (current : Opener) (used : Left) (built : Building) → current.of ≡ None → current.mods ≡ []
+      → Later done current used built → Opening done current used built
   plain_stage done current used built no_of no_mods k = record {
     front = k.front;
     back = k.back;
@@ -176,7 +181,8 @@ module _ (expr : Rule SynExpr) where
     built_is = k.built_is ∙ (λ i. done ++ record { how = current.how; name = current.name; of = Some name; mods = no_mods i ++ k.mods } ∷ k.more);
   }
 
-  nothing_later : (done : List Opener) (current : Opener) (used : Left) (built : Building) → used ≡ [] → openers_of built ≡ done ++ current ∷ [] → Later done current used built
+  nothing_later : (done : List Opener) (current : Opener) (used : Left) (built : Building) → used ≡ [] → openers_of built ≡ done ++ current ∷ []
+      → Later done current used built
   nothing_later done current used built none e = record {
     front = [];
     back = [];
@@ -189,13 +195,16 @@ module _ (expr : Rule SynExpr) where
   }
 
   abbrev Laters : List Link → Type 0
-  Laters items = (done : List Opener) (current : Opener) (used : Left) → turns (later_state done current) used items → Later done current used (fold added (later_state done current) items)
+  Laters items = (done : List Opener) (current : Opener) (used : Left) → turns (later_state done current) used items
+      → Later done current used (fold added (later_state done current) items)
 
   abbrev Openings : List Link → Type 0
-  Openings items = (done : List Opener) (current : Opener) (used : Left) → current.of ≡ None → current.mods ≡ [] → turns (fresh_state done current) used items → Opening done current used (fold added (fresh_state done current) items)
+  Openings items = (done : List Opener) (current : Opener) (used : Left) → current.of ≡ None → current.mods ≡ []
+      → turns (fresh_state done current) used items → Opening done current used (fold added (fresh_state done current) items)
 
   -- a modifier or the next stage, from either state
-  later_turn : (fresh : Bool) (items : List Link) → Laters items → Openings items → (done : List Opener) (current : Opener) (l : Link) (used front back : Left) → used ≡ front ++ back
+  later_turn : (fresh : Bool) (items : List Link) → Laters items → Openings items
+      → (done : List Opener) (current : Opener) (l : Link) (used front back : Left) → used ≡ front ++ back
       → InTurn (sign (codes ".")) (λ _. any_link expr false) front l
       → turns (added (record { done = done; current = current; fresh = fresh }) l) back items
       → Later done current used (fold added (added (record { done = done; current = current; fresh = fresh }) l) items)
@@ -204,7 +213,8 @@ module _ (expr : Rule SynExpr) where
     cases (inr h) =
         let k = made_is (modifier expr) Mod d.back l h in
         subst (λ x. Later done current used (fold added (added (record { done = done; current = current; fresh = fresh }) x) items)) (sym k.2)
-        (with_modifier done current k.0 front back used _ is (record { front = d.front; back = d.back; value = d.value; is = d.is; first = d.first; second = k.1 })
+        (with_modifier done current k.0 front back used _ is
+        (record { front = d.front; back = d.back; value = d.value; is = d.is; first = d.first; second = k.1 })
         (laters done (record { how = current.how; name = current.name; of = current.of; mods = current.mods ++ k.0 ∷ [] }) back
         (subst (λ x. turns (added (record { done = done; current = current; fresh = fresh }) x) back items) k.2 rest)))
     cases (inl h) =
@@ -214,7 +224,8 @@ module _ (expr : Rule SynExpr) where
         (openings (done ++ current ∷ []) (opened k.0.0 k.0.1) back refl refl
         (subst (λ x. turns (added (record { done = done; current = current; fresh = fresh }) x) back items) k.2 rest)))
 
-  opening_turn : (items : List Link) → Laters items → Openings items → (done : List Opener) (current : Opener) (l : Link) (used front back : Left) → current.of ≡ None → current.mods ≡ [] → used ≡ front ++ back
+  opening_turn : (items : List Link) → Laters items → Openings items → (done : List Opener) (current : Opener) (l : Link) (used front back : Left)
+      → current.of ≡ None → current.mods ≡ [] → used ≡ front ++ back
       → InTurn (sign (codes ".")) (λ _. any_link expr true) front l
       → turns (added (fresh_state done current) l) back items
       → Opening done current used (fold added (added (fresh_state done current) l) items)
@@ -223,17 +234,20 @@ module _ (expr : Rule SynExpr) where
     cases (inl h) =
         let k = made_is of_name Of d.back l h in
         subst (λ x. Opening done current used (fold added (added (fresh_state done current) x) items)) (sym k.2)
-        (stage_with_of done current k.0 front back used _ is (record { front = d.front; back = d.back; value = d.value; is = d.is; first = d.first; second = k.1 }) no_mods
+        (stage_with_of done current k.0 front back used _ is
+        (record { front = d.front; back = d.back; value = d.value; is = d.is; first = d.first; second = k.1 }) no_mods
         (laters done (record { how = current.how; name = current.name; of = Some k.0; mods = current.mods }) back
         (subst (λ x. turns (added (fresh_state done current) x) back items) k.2 rest)))
     cases (inr h) =
         plain_stage done current used _ no_of no_mods
-        (later_turn true items laters openings done current l used front back is (record { front = d.front; back = d.back; value = d.value; is = d.is; first = d.first; second = h }) rest)
+        (later_turn true items laters openings done current l used front back is
+        (record { front = d.front; back = d.back; value = d.value; is = d.is; first = d.first; second = h }) rest)
 
   both : (items : List Link) → Laters items × Openings items
   both [] = (
     λ done current used h. nothing_later done current used (later_state done current) h refl,
-    λ done current used no_of no_mods h. plain_stage done current used (fresh_state done current) no_of no_mods (nothing_later done current used (fresh_state done current) h refl),
+    λ done current used no_of no_mods h. plain_stage done current used (fresh_state done current) no_of no_mods
+        (nothing_later done current used (fresh_state done current) h refl),
   )
   both (l ∷ items) =
       let k = both items in (
@@ -242,7 +256,8 @@ module _ (expr : Rule SynExpr) where
       )
 
   -- what the links build are stages of the grammar
-  pub links-stages : (name : Name) (used : Left) (built : Building) → Builds added (λ c. dotted expr c.fresh) (started name) used built → stages expr name used (openers_of built)
+  pub links-stages : (name : Name) (used : Left) (built : Building) → Builds added (λ c. dotted expr c.fresh) (started name) used built
+      → stages expr name used (openers_of built)
   links-stages name used built h =
       let k = (both h.items).1 [] (opened Begin name) used refl refl h.holds in
       record {
@@ -251,7 +266,16 @@ module _ (expr : Rule SynExpr) where
         value = k.first;
         is = k.is;
         first = k.first_is;
-        second = record { front = k.back; back = []; value = k.more; is = sym (append-nil k.back); first = k.more_are; second = (refl, ap openers_of h.is ∙ k.built_is) };
+        second =
+            record {
+              front = k.back;
+              back = [];
+              value = k.more;
+              is = sym (append-nil k.back);
+              first = k.more_are;
+              second =
+                  (refl, ap openers_of h.is ∙ k.built_is);
+            };
       }
 
   -- the links of modifiers
@@ -260,22 +284,50 @@ module _ (expr : Rule SynExpr) where
   mod_links (m ∷ mods) = Mod m ∷ mod_links mods
 
   dotted_mod : (fresh : Bool) (used : Left) (m : Modifier) → dotted_modifier used m → dotted expr fresh used (Mod m)
-  dotted_mod true used m h = record { front = h.front; back = h.back; value = h.value; is = h.is; first = h.first; second = inr (inr (made_of (modifier expr) Mod h.back m h.second)) }
-  dotted_mod false used m h = record { front = h.front; back = h.back; value = h.value; is = h.is; first = h.first; second = inr (made_of (modifier expr) Mod h.back m h.second) }
+  dotted_mod true used m h =
+      record {
+        front = h.front;
+        back = h.back;
+        value = h.value;
+        is = h.is;
+        first = h.first;
+        second =
+            inr (inr (made_of (modifier expr) Mod h.back m h.second));
+      }
+  dotted_mod false used m h =
+      record {
+        front = h.front;
+        back = h.back;
+        value = h.value;
+        is = h.is;
+        first = h.first;
+        second =
+            inr (made_of (modifier expr) Mod h.back m h.second);
+      }
 
-  mods_turns : (mods : List Modifier) (s : Building) (front tail : Left) (items : List Link) → many (dotted_modifier) front mods → turns (fold added s (mod_links mods)) tail items → turns s (front ++ tail) (mod_links mods ++ items)
+  mods_turns : (mods : List Modifier) (s : Building) (front tail : Left) (items : List Link) → many (dotted_modifier) front mods
+      → turns (fold added s (mod_links mods)) tail items → turns s (front ++ tail) (mod_links mods ++ items)
   mods_turns [] s front tail items h k = subst (λ l. turns s (l ++ tail) items) (sym h) k
-  mods_turns (m ∷ mods) s front tail items h k =
-      (h.0, h.1 ++ tail, ap (λ l. l ++ tail) h.2 ∙ append_assoc h.0 h.1 tail, dotted_mod s.fresh h.0 m h.3, mods_turns mods (added s (Mod m)) h.1 tail items h.4 k)
+  mods_turns (m ∷ mods) s front tail items h k = (
+    h.0,
+    h.1 ++ tail,
+    ap (λ l. l ++ tail) h.2
+        ∙ append_assoc h.0 h.1 tail,
+    dotted_mod s.fresh h.0 m h.3,
+    mods_turns mods (added s (Mod m)) h.1 tail items h.4 k,
+  )
 
   mods_fold : (mods : List Modifier) (s : Building) → (fold added s (mod_links mods)).done ≡ s.done
   mods_fold [] s = refl
   mods_fold (m ∷ mods) s = mods_fold mods (added s (Mod m))
 
-  mods_current : (mods : List Modifier) (s : Building) → (fold added s (mod_links mods)).current ≡ record { how = s.current.how; name = s.current.name; of = s.current.of; mods = s.current.mods ++ mods }
+  mods_current : (mods : List Modifier) (s : Building)
+      → (fold added s (mod_links mods)).current
+      ≡ record { how = s.current.how; name = s.current.name; of = s.current.of; mods = s.current.mods ++ mods }
   mods_current [] s = ap (λ l. record { how = s.current.how; name = s.current.name; of = s.current.of; mods = l }) (sym (append-nil s.current.mods))
   mods_current (m ∷ mods) s =
-      mods_current mods (added s (Mod m)) ∙ ap (λ l. record { how = s.current.how; name = s.current.name; of = s.current.of; mods = l }) (append_assoc s.current.mods (m ∷ []) mods)
+      mods_current mods (added s (Mod m))
+      ∙ ap (λ l. record { how = s.current.how; name = s.current.name; of = s.current.of; mods = l }) (append_assoc s.current.mods (m ∷ []) mods)
 
   -- links from a state on, and what they build
   record Linked (s : Building) (used : Left) (openers : List Opener) : Type 0 where
@@ -284,14 +336,16 @@ module _ (expr : Rule SynExpr) where
     built : openers_of (fold added s items) ≡ openers
 
   -- a stage and what comes behind it
-  mods_linked : (mods : List Modifier) (s : Building) (front tail : Left) (openers : List Opener) → many (dotted_modifier) front mods → Linked (fold added s (mod_links mods)) tail openers → Linked s (front ++ tail) openers
+  mods_linked : (mods : List Modifier) (s : Building) (front tail : Left) (openers : List Opener) → many (dotted_modifier) front mods
+      → Linked (fold added s (mod_links mods)) tail openers → Linked s (front ++ tail) openers
   mods_linked mods s front tail openers h k = record {
     items = mod_links mods ++ k.items;
     holds = mods_turns mods s front tail k.items h k.holds;
     built = ap openers_of (fold-append added s (mod_links mods) k.items) ∙ k.built;
   }
 
-  stage_linked : (done : List Opener) (current first : Opener) (front tail : Left) (openers : List Opener) → current.of ≡ None → current.mods ≡ [] → stage expr current.how current.name front first
+  stage_linked : (done : List Opener) (current first : Opener) (front tail : Left) (openers : List Opener) → current.of ≡ None → current.mods ≡ []
+      → stage expr current.how current.name front first
       → ((s : Building) → s.done ≡ done → s.current ≡ first → Linked s tail openers) → Linked (fresh_state done current) (front ++ tail) openers
   stage_linked done current first front tail openers no_of no_mods h next = cases h.first where
     mods : List Modifier
@@ -305,8 +359,10 @@ module _ (expr : Rule SynExpr) where
         let s = fresh_state done current in
         let is : front ++ tail ≡ h.second.front ++ tail = ap (λ l. l ++ tail) (h.is ∙ ap (λ l. l ++ h.back) none.0 ∙ behind) in
         let current_is : (fold added s (mod_links mods)).current ≡ first =
-        mods_current mods s ∙ (λ i. record { how = current.how; name = current.name; of = (no_of ∙ sym none.1) i; mods = no_mods i ++ mods }) ∙ sym h.second.second.1 in
-        subst (λ l. Linked s l openers) (sym is) (mods_linked mods s h.second.front tail openers h.second.first (next (fold added s (mod_links mods)) (mods_fold mods s) current_is))
+        mods_current mods s ∙ (λ i. record { how = current.how; name = current.name; of = (no_of ∙ sym none.1) i; mods = no_mods i ++ mods })
+        ∙ sym h.second.second.1 in
+        subst (λ l. Linked s l openers) (sym is) (mods_linked mods s h.second.front tail openers h.second.first
+        (next (fold added s (mod_links mods)) (mods_fold mods s) current_is))
     cases (inl some) =
         let name = some.second.value in
         let s = later_state done (record { how = current.how; name = current.name; of = Some name; mods = current.mods }) in
@@ -314,7 +370,8 @@ module _ (expr : Rule SynExpr) where
         let is : front ++ tail ≡ h.front ++ (h.second.front ++ tail) =
         ap (λ l. l ++ tail) (h.is ∙ ap (λ l. h.front ++ l) behind) ∙ append_assoc h.front h.second.front tail in
         let current_is : (fold added s (mod_links mods)).current ≡ first =
-        mods_current mods s ∙ (λ i. record { how = current.how; name = current.name; of = (sym some.second.second.1) i; mods = no_mods i ++ mods }) ∙ sym h.second.second.1 in
+        mods_current mods s ∙ (λ i. record { how = current.how; name = current.name; of = (sym some.second.second.1) i; mods = no_mods i ++ mods })
+        ∙ sym h.second.second.1 in
         let k = mods_linked mods s h.second.front tail openers h.second.first (next (fold added s (mod_links mods)) (mods_fold mods s) current_is) in
         record {
           items = Of name ∷ k.items;
@@ -322,15 +379,41 @@ module _ (expr : Rule SynExpr) where
             h.front,
             h.second.front ++ tail,
             is,
-            record { front = some.front; back = some.back; value = some.value; is = some.is; first = some.first; second = inl (made_of of_name Of some.back name (subst (λ l. of_name l name) (sym of_back) some.second.first)) },
+            record {
+              front = some.front;
+              back = some.back;
+              value = some.value;
+              is = some.is;
+              first = some.first;
+              second =
+                  inl (made_of of_name Of some.back name (subst (λ l. of_name l name) (sym of_back) some.second.first));
+            },
             k.holds,
           );
           built = k.built;
         }
 
   dotted_open : (fresh : Bool) (used : Left) (o : OpenKind × Name) → InTurn (sign (codes ".")) (λ _. opener_named) used o → dotted expr fresh used (Open o.0 o.1)
-  dotted_open true used o h = record { front = h.front; back = h.back; value = h.value; is = h.is; first = h.first; second = inr (inl (made_of opener_named (λ x. Open x.0 x.1) h.back o h.second)) }
-  dotted_open false used o h = record { front = h.front; back = h.back; value = h.value; is = h.is; first = h.first; second = inl (made_of opener_named (λ x. Open x.0 x.1) h.back o h.second) }
+  dotted_open true used o h =
+      record {
+        front = h.front;
+        back = h.back;
+        value = h.value;
+        is = h.is;
+        first = h.first;
+        second =
+            inr (inl (made_of opener_named (λ x. Open x.0 x.1) h.back o h.second));
+      }
+  dotted_open false used o h =
+      record {
+        front = h.front;
+        back = h.back;
+        value = h.value;
+        is = h.is;
+        first = h.first;
+        second =
+            inl (made_of opener_named (λ x. Open x.0 x.1) h.back o h.second);
+      }
 
   stages_linked : (more : List Opener) (s : Building) (used : Left) → many (next_stage expr) used more → Linked s used (s.done ++ s.current ∷ more)
   stages_linked [] s used h = record { items = []; holds = h; built = refl }
@@ -350,14 +433,16 @@ module _ (expr : Rule SynExpr) where
           ns.front ++ ns.second.front,
           ns.second.back ++ h.1,
           is,
-          dotted_open s.fresh (ns.front ++ ns.second.front) o (record { front = ns.front; back = ns.second.front; value = ns.value; is = refl; first = ns.first; second = ns.second.first }),
+          dotted_open s.fresh (ns.front ++ ns.second.front) o
+              (record { front = ns.front; back = ns.second.front; value = ns.value; is = refl; first = ns.first; second = ns.second.first }),
           k.holds,
         );
         built = k.built;
       }
 
   -- each stages of the grammar are what some links build
-  pub stages-links : (name : Name) (used : Left) (all : List Opener) → stages expr name used all → (built : Building) × Builds added (λ c. dotted expr c.fresh) (started name) used built × (openers_of built ≡ all)
+  pub stages-links : (name : Name) (used : Left) (all : List Opener) → stages expr name used all → (built : Building)
+      × Builds added (λ c. dotted expr c.fresh) (started name) used built × (openers_of built ≡ all)
   stages-links name used all h =
       let first = h.value in
       let more = h.second.value in

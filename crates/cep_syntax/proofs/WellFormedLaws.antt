@@ -36,14 +36,17 @@ is_formed_field f = form.is_word f.name.text
 
 gives-field : Gives grammar.field is_formed_field
 unfolding grammar.field
-gives-field = Gives-then _ _ (λ name. form.is_word name.text) is_formed_field gives-any_word (λ name e. Gives-last _ _ is_formed_field (λ kind. Gives-pure (record { name = name; kind = kind }) is_formed_field e))
+gives-field =
+    Gives-then _ _ (λ name. form.is_word name.text) is_formed_field gives-any_word
+    (λ name e. Gives-last _ _ is_formed_field (λ kind. Gives-pure (record { name = name; kind = kind }) is_formed_field e))
 
 gives-fields : Gives grammar.fields (list_all is_formed_field)
 unfolding grammar.fields
 gives-fields =
     Gives-or _ _ (list_all is_formed_field)
     (Gives-then _ _ is_formed_field (list_all is_formed_field) gives-field
-    (λ first e. Gives-then _ _ (list_all is_formed_field) (list_all is_formed_field) (Gives-many _ is_formed_field (Gives-last _ _ is_formed_field (λ _. gives-field)))
+    (λ first e. Gives-then _ _ (list_all is_formed_field) (list_all is_formed_field)
+    (Gives-many _ is_formed_field (Gives-last _ _ is_formed_field (λ _. gives-field)))
     (λ more f. Gives-pure (first ∷ more) (list_all is_formed_field) (both_true (is_formed_field first) (list_all is_formed_field more) e f))))
     (Gives-pure [] (list_all is_formed_field) refl)
 
@@ -55,7 +58,8 @@ gives-declaration =
     Gives-last _ _ is_formed_type (λ _.
     Gives-then _ _ (list_all is_formed_field) is_formed_type gives-fields (λ found f.
     Gives-last _ _ is_formed_type (λ _.
-    Gives-last _ _ is_formed_type (λ _. Gives-pure (record { name = name; fields = found }) is_formed_type (both_true (form.is_word name.text) (list_all is_formed_field found) e f)))))))
+    Gives-last _ _ is_formed_type (λ _. Gives-pure (record { name = name; fields = found }) is_formed_type
+    (both_true (form.is_word name.text) (list_all is_formed_field found) e f)))))))
 
 -- ---- names and numbers
 
@@ -65,7 +69,8 @@ gives-named = Gives-last _ _ _ (λ _. Gives-then _ _ (λ name. is_name name.text
 gives-of_name : Gives grammar.of_name (λ name. form.is_word name.text)
 unfolding grammar.of_name
 gives-of_name =
-    Gives-last _ _ _ (λ _. Gives-last _ _ _ (λ _. Gives-then _ _ (λ name. form.is_word name.text) _ gives-any_word (λ name e. Gives-last _ _ _ (λ _. Gives-pure name _ e))))
+    Gives-last _ _ _ (λ _. Gives-last _ _ _ (λ _. Gives-then _ _ (λ name. form.is_word name.text) _ gives-any_word
+    (λ name e. Gives-last _ _ _ (λ _. Gives-pure name _ e))))
 
 gives-limit : Gives grammar.time_limit (λ n. is_number n.value)
 unfolding grammar.time_limit
@@ -84,7 +89,9 @@ gives-times =
 
 gives-times_or_more : Gives grammar.times_or_more is_formed_modifier
 unfolding grammar.times_or_more
-gives-times_or_more = Gives-last _ _ is_formed_modifier (λ _. Gives-then _ _ is_number is_formed_modifier gives-number (λ from e. Gives-last _ _ is_formed_modifier (λ _. Gives-pure _ is_formed_modifier e)))
+gives-times_or_more =
+    Gives-last _ _ is_formed_modifier (λ _. Gives-then _ _ is_number is_formed_modifier gives-number
+    (λ from e. Gives-last _ _ is_formed_modifier (λ _. Gives-pure _ is_formed_modifier e)))
 
 gives-bare : (what : ModKind) → is_formed_modifier what ≡ true → Gives (grammar.bare what) is_formed_modifier
 unfolding grammar.bare
@@ -95,7 +102,8 @@ module _ (e : Rule SynExpr) (inner : Gives e is_formed) where
   unfolding grammar.condition
   gives-condition = Gives-last _ _ is_formed (λ _. Gives-then e _ is_formed is_formed inner (λ x h. Gives-last _ _ is_formed (λ _. Gives-pure x is_formed h)))
 
-  gives-with_condition : (made : SynExpr → ModKind) → ((x : SynExpr) → is_formed x ≡ true → is_formed_modifier (made x) ≡ true) → Gives (rule.◌>>=◌ (grammar.condition e) (λ x. rule.pure (made x))) is_formed_modifier
+  gives-with_condition : (made : SynExpr → ModKind) → ((x : SynExpr) → is_formed x ≡ true → is_formed_modifier (made x) ≡ true)
+      → Gives (rule.◌>>=◌ (grammar.condition e) (λ x. rule.pure (made x))) is_formed_modifier
   gives-with_condition made so = Gives-then _ _ is_formed is_formed_modifier gives-condition (λ x h. Gives-pure (made x) is_formed_modifier (so x h))
 
   gives-modifier_kind : Gives (grammar.modifier_kind e) is_formed_modifier
@@ -117,15 +125,21 @@ module _ (e : Rule SynExpr) (inner : Gives e is_formed) where
       (λ found h. Gives-pure (grammar.placed_modifier found) (λ m. is_formed_modifier m.what) h)
 
   -- a stage of which something is known from how it is opened
-  gives-stage : (test : OpenKind → Bool) (how : OpenKind) (name : Name) → test how ≡ true → is_name name.text ≡ true → Gives (grammar.stage e how name) (λ o. is_formed_opener o && test o.how)
+  gives-stage : (test : OpenKind → Bool) (how : OpenKind) (name : Name) → test how ≡ true → is_name name.text ≡ true
+      → Gives (grammar.stage e how name) (λ o. is_formed_opener o && test o.how)
   gives-stage test how name t n =
       Gives-then _ _ (of_some (λ of. form.is_word of.text)) _
       (Gives-or _ _ (of_some (λ of. form.is_word of.text))
-      (Gives-last _ _ (of_some (λ of. form.is_word of.text)) (λ _. Gives-then _ _ (λ of. form.is_word of.text) (of_some (λ of. form.is_word of.text)) gives-of_name (λ of h. Gives-pure (Some of) (of_some (λ x. form.is_word x.text)) h)))
+      (Gives-last _ _ (of_some (λ of. form.is_word of.text))
+      (λ _. Gives-then _ _ (λ of. form.is_word of.text) (of_some (λ of. form.is_word of.text)) gives-of_name
+      (λ of h. Gives-pure (Some of) (of_some (λ x. form.is_word x.text)) h)))
       (Gives-pure None (of_some (λ of. form.is_word of.text)) refl))
-      (λ of h. Gives-then _ _ (list_all (λ m. is_formed_modifier m.what)) _ (Gives-many _ (λ m. is_formed_modifier m.what) (Gives-last _ _ (λ m. is_formed_modifier m.what) (λ _. gives-modifier)))
+      (λ of h. Gives-then _ _ (list_all (λ m. is_formed_modifier m.what)) _
+      (Gives-many _ (λ m. is_formed_modifier m.what) (Gives-last _ _ (λ m. is_formed_modifier m.what) (λ _. gives-modifier)))
       (λ mods g. Gives-pure (record { how = how; name = name; of = of; mods = mods }) (λ o. is_formed_opener o && test o.how)
-      (both_true (is_formed_opener (record { how = how; name = name; of = of; mods = mods })) (test how) (both_true (is_name name.text) _ n (both_true (of_some (λ x. form.is_word x.text) of) (list_all (λ m. is_formed_modifier m.what) mods) h g)) t)))
+      (both_true (is_formed_opener (record { how = how; name = name; of = of; mods = mods })) (test how)
+      (both_true (is_name name.text) _ n (both_true (of_some (λ x. form.is_word x.text) of) (list_all (λ m. is_formed_modifier m.what) mods) h
+      g)) t)))
 
 opener_no_begin : (t : Lexeme) (how : OpenKind) → opener t ≡ Some how → not (is_begin how) ≡ true
 unfolding opener
@@ -136,7 +150,9 @@ opener_no_begin t how e = cases (word (codes "next") t) (word (codes "followedBy
   is_other : (x : OpenKind) → not (is_begin x) ≡ true → Some x ≡ Some how → not (is_begin how) ≡ true
   is_other x f h = subst (λ y. not (is_begin y) ≡ true) (some_is h) f
 
-  cases : (a b c d f : Bool) → cond a (Some Next) (cond b (Some FollowedBy) (cond c (Some FollowedByAny) (cond d (Some NotNext) (cond f (Some NotFollowedBy) None)))) ≡ Some how → not (is_begin how) ≡ true
+  cases : (a b c d f : Bool)
+      → cond a (Some Next) (cond b (Some FollowedBy) (cond c (Some FollowedByAny) (cond d (Some NotNext) (cond f (Some NotFollowedBy) None))))
+      ≡ Some how → not (is_begin how) ≡ true
   cases true b c d f h = is_other Next refl h
   cases false true c d f h = is_other FollowedBy refl h
   cases false false true d f h = is_other FollowedByAny refl h
@@ -158,19 +174,26 @@ abbrev OpenersTest : List Opener → Bool
 OpenersTest openers = begins_once openers && list_all is_formed_opener openers
 
 -- both tests at once, or one after the other
-split_tests : (openers : List Opener) → list_all (λ o. is_formed_opener o && not (is_begin o.how)) openers ≡ true → (list_all is_formed_opener openers ≡ true) × (list_all (λ o. not (is_begin o.how)) openers ≡ true)
+split_tests : (openers : List Opener) → list_all (λ o. is_formed_opener o && not (is_begin o.how)) openers ≡ true
+    → (list_all is_formed_opener openers ≡ true) × (list_all (λ o. not (is_begin o.how)) openers ≡ true)
 split_tests [] e = (refl, refl)
 split_tests (o ∷ openers) e =
     let k = and_true (is_formed_opener o && not (is_begin o.how)) (list_all (λ x. is_formed_opener x && not (is_begin x.how)) openers) e in
     let here = and_true (is_formed_opener o) (not (is_begin o.how)) k.0 in
-    let later = split_tests openers k.1 in
-    (both_true (is_formed_opener o) (list_all is_formed_opener openers) here.0 later.0, both_true (not (is_begin o.how)) (list_all (λ x. not (is_begin x.how)) openers) here.1 later.1)
+    let later = split_tests openers k.1 in (
+      both_true (is_formed_opener o) (list_all is_formed_opener openers) here.0 later.0,
+      both_true (not (is_begin o.how))
+          (list_all (λ x. not (is_begin x.how)) openers) here.1 later.1,
+    )
 
-openers_form : (first : Opener) (more : List Opener) → is_formed_opener first && is_begin first.how ≡ true → list_all (λ o. is_formed_opener o && not (is_begin o.how)) more ≡ true → OpenersTest (first ∷ more) ≡ true
+openers_form : (first : Opener) (more : List Opener) → is_formed_opener first && is_begin first.how ≡ true
+    → list_all (λ o. is_formed_opener o && not (is_begin o.how)) more ≡ true → OpenersTest (first ∷ more) ≡ true
 openers_form first more e f =
     let k = and_true (is_formed_opener first) (is_begin first.how) e in
     let later = split_tests more f in
-    both_true (begins_once (first ∷ more)) (list_all is_formed_opener (first ∷ more)) (both_true (is_begin first.how) (list_all (λ o. not (is_begin o.how)) more) k.1 later.1) (both_true (is_formed_opener first) (list_all is_formed_opener more) k.0 later.0)
+    both_true (begins_once (first ∷ more)) (list_all is_formed_opener (first ∷ more))
+    (both_true (is_begin first.how) (list_all (λ o. not (is_begin o.how)) more) k.1 later.1)
+    (both_true (is_formed_opener first) (list_all is_formed_opener more) k.0 later.0)
 
 abbrev PatternTest : List Opener × Option PlacedNumber → Bool
 PatternTest found = OpenersTest found.0 && of_some (λ n. is_number n.value) found.1
@@ -180,14 +203,17 @@ FileTest f = list_all is_formed_type f.types && (PatternTest (f.openers, f.withi
 
 gives-skip : Gives grammar.skip is_formed_skip
 unfolding grammar.skip
-gives-skip = Gives-last _ _ is_formed_skip (λ _. Gives-then _ _ is_formed_skip is_formed_skip gives-skip_kind (λ what e. Gives-last _ _ is_formed_skip (λ _. Gives-pure what is_formed_skip e))) where
-  gives-skip_kind : Gives grammar.skip_kind is_formed_skip
-  gives-skip_kind =
-      Gives-or _ _ is_formed_skip (Gives-last _ _ is_formed_skip (λ _. Gives-pure _ is_formed_skip refl))
-      (Gives-or _ _ is_formed_skip (Gives-last _ _ is_formed_skip (λ _. Gives-pure _ is_formed_skip refl))
-      (Gives-or _ _ is_formed_skip (Gives-last _ _ is_formed_skip (λ _. Gives-pure _ is_formed_skip refl))
-      (Gives-or _ _ is_formed_skip (Gives-last _ _ is_formed_skip (λ _. Gives-then _ _ (λ name. is_name name.text) is_formed_skip gives-named (λ name e. Gives-pure _ is_formed_skip e)))
-      (Gives-last _ _ is_formed_skip (λ _. Gives-then _ _ (λ name. is_name name.text) is_formed_skip gives-named (λ name e. Gives-pure _ is_formed_skip e))))))
+gives-skip =
+    Gives-last _ _ is_formed_skip (λ _. Gives-then _ _ is_formed_skip is_formed_skip gives-skip_kind
+    (λ what e. Gives-last _ _ is_formed_skip (λ _. Gives-pure what is_formed_skip e))) where
+      gives-skip_kind : Gives grammar.skip_kind is_formed_skip
+      gives-skip_kind =
+          Gives-or _ _ is_formed_skip (Gives-last _ _ is_formed_skip (λ _. Gives-pure _ is_formed_skip refl))
+          (Gives-or _ _ is_formed_skip (Gives-last _ _ is_formed_skip (λ _. Gives-pure _ is_formed_skip refl))
+          (Gives-or _ _ is_formed_skip (Gives-last _ _ is_formed_skip (λ _. Gives-pure _ is_formed_skip refl))
+          (Gives-or _ _ is_formed_skip (Gives-last _ _ is_formed_skip
+          (λ _. Gives-then _ _ (λ name. is_name name.text) is_formed_skip gives-named (λ name e. Gives-pure _ is_formed_skip e)))
+          (Gives-last _ _ is_formed_skip (λ _. Gives-then _ _ (λ name. is_name name.text) is_formed_skip gives-named (λ name e. Gives-pure _ is_formed_skip e))))))
 
 some_shown : (first : SynExpr) (more : List SynExpr) → nat_le 1 (length (first ∷ more)) ≡ true
 some_shown first more = at_least (length more) where
@@ -198,21 +224,26 @@ module _ (e : Rule SynExpr) (inner : Gives e is_formed) where
   gives-next_stage : Gives (grammar.next_stage e) (λ o. is_formed_opener o && not (is_begin o.how))
   gives-next_stage =
       Gives-last _ _ _ (λ _. Gives-then _ _ OpenTest _ gives-opener_named
-      (λ found h. let k = and_true (is_name found.1.text) (not (is_begin found.0)) h in gives-stage e inner (λ how. not (is_begin how)) found.0 found.1 k.1 k.0))
+      (λ found h. let k = and_true (is_name found.1.text) (not (is_begin found.0)) h in
+      gives-stage e inner (λ how. not (is_begin how)) found.0 found.1 k.1 k.0))
 
   gives-stages : (name : Name) → is_name name.text ≡ true → Gives (grammar.stages e name) OpenersTest
   gives-stages name n =
       Gives-then _ _ (λ o. is_formed_opener o && is_begin o.how) OpenersTest (gives-stage e inner is_begin Begin name refl n)
-      (λ first f. Gives-then _ _ (list_all (λ o. is_formed_opener o && not (is_begin o.how))) OpenersTest (Gives-many _ (λ o. is_formed_opener o && not (is_begin o.how)) gives-next_stage)
+      (λ first f. Gives-then _ _ (list_all (λ o. is_formed_opener o && not (is_begin o.how))) OpenersTest
+      (Gives-many _ (λ o. is_formed_opener o && not (is_begin o.how)) gives-next_stage)
       (λ more g. Gives-pure (first ∷ more) OpenersTest (openers_form first more f g)))
 
   gives-pattern : Gives (grammar.pattern e) PatternTest
   unfolding grammar.pattern
   gives-pattern =
-      Gives-last _ _ PatternTest (λ _. Gives-last _ _ PatternTest (λ _. Gives-last _ _ PatternTest (λ _. Gives-then _ _ (λ name. is_name name.text) PatternTest gives-stage_name
+      Gives-last _ _ PatternTest (λ _. Gives-last _ _ PatternTest
+      (λ _. Gives-last _ _ PatternTest (λ _. Gives-then _ _ (λ name. is_name name.text) PatternTest gives-stage_name
       (λ name n. Gives-last _ _ PatternTest (λ _. Gives-then _ _ OpenersTest PatternTest (gives-stages name n)
-      (λ openers f. Gives-then _ _ (of_some (λ x. is_number x.value)) PatternTest (Gives-maybe _ (λ x. is_number x.value) (Gives-last _ _ (λ x. is_number x.value) (λ _. gives-limit)))
-      (λ limit g. Gives-last _ _ PatternTest (λ _. Gives-pure (openers, limit) PatternTest (both_true (OpenersTest openers) (of_some (λ x. is_number x.value) limit) f g)))))))))
+      (λ openers f. Gives-then _ _ (of_some (λ x. is_number x.value)) PatternTest
+      (Gives-maybe _ (λ x. is_number x.value) (Gives-last _ _ (λ x. is_number x.value) (λ _. gives-limit)))
+      (λ limit g. Gives-last _ _ PatternTest (λ _. Gives-pure (openers, limit) PatternTest
+      (both_true (OpenersTest openers) (of_some (λ x. is_number x.value) limit) f g)))))))))
 
   gives-select : Gives (grammar.select e) is_formed_select
   unfolding grammar.select
@@ -220,7 +251,8 @@ module _ (e : Rule SynExpr) (inner : Gives e is_formed) where
       Gives-last _ _ is_formed_select (λ _. Gives-then e _ is_formed is_formed_select inner
       (λ first f. Gives-then _ _ (list_all is_formed) is_formed_select (Gives-many _ is_formed (Gives-last _ _ is_formed (λ _. inner)))
       (λ more g. Gives-last _ _ is_formed_select (λ _. Gives-pure (first ∷ more) is_formed_select
-      (both_true (nat_le 1 (length (first ∷ more))) (list_all is_formed (first ∷ more)) (some_shown first more) (both_true (is_formed first) (list_all is_formed more) f g))))))
+      (both_true (nat_le 1 (length (first ∷ more))) (list_all is_formed (first ∷ more)) (some_shown first more)
+      (both_true (is_formed first) (list_all is_formed more) f g))))))
 
   gives-file : Gives (grammar.file e) FileTest
   unfolding grammar.file
@@ -230,7 +262,8 @@ module _ (e : Rule SynExpr) (inner : Gives e is_formed) where
       (λ found g. Gives-then _ _ (of_some is_formed_skip) FileTest (Gives-maybe _ is_formed_skip gives-skip)
       (λ after h. Gives-then _ _ (of_some is_formed_select) FileTest (Gives-maybe _ is_formed_select gives-select)
       (λ shown k. Gives-pure (record { types = types; openers = found.0; within = found.1; skip = after; select = shown }) FileTest
-      (both_true (list_all is_formed_type types) _ f (both_true (PatternTest found) _ g (both_true (of_some is_formed_skip after) (of_some is_formed_select shown) h k)))))))
+      (both_true (list_all is_formed_type types) _ f
+      (both_true (PatternTest found) _ g (both_true (of_some is_formed_skip after) (of_some is_formed_select shown) h k)))))))
 
 -- ---- how many types and fields
 
@@ -253,7 +286,10 @@ sum_of_twos {A} (x ∷ xs) = let sum = sum_by-cons {X = A} (λ _. 2) x xs in let
 
 takes-field : Takes grammar.field (λ _. 2)
 unfolding grammar.field
-takes-field = Takes-then _ _ (λ _. 1) (λ _ _. 1) (λ _. 2) (Takes-one any_word) (λ name. Takes-then _ _ (λ _. 1) (λ _ _. 0) (λ _. 1) (Takes-one kind_of) (λ kind. Takes-none _) (λ a b used h. omega arith)) (λ a b used h. omega arith)
+takes-field =
+    Takes-then _ _ (λ _. 1) (λ _ _. 1) (λ _. 2) (Takes-one any_word)
+    (λ name. Takes-then _ _ (λ _. 1) (λ _ _. 0) (λ _. 1) (Takes-one kind_of) (λ kind. Takes-none _) (λ a b used h. omega arith))
+    (λ a b used h. omega arith)
 
 takes-next_field : Takes (rule.◌>>◌ (rule.sign (codes ",")) grammar.field) (λ _. 2)
 takes-next_field = Takes-then _ _ (λ _. 1) (λ _ _. 2) (λ _. 2) (Takes-one _) (λ _. takes-field) (λ a b used h. omega arith)

@@ -16,8 +16,15 @@ abbrev pub started : Name → Building
 started name = record { done = []; current = opened Begin name; fresh = true }
 
 abbrev pub added : Building → Link → Building
-added b (Of name) = record { done = b.done; current = record { how = b.current.how; name = b.current.name; of = Some name; mods = b.current.mods }; fresh = false }
-added b (Mod m) = record { done = b.done; current = record { how = b.current.how; name = b.current.name; of = b.current.of; mods = b.current.mods ++ m ∷ [] }; fresh = false }
+added b (Of name) =
+    record { done = b.done; current = record { how = b.current.how; name = b.current.name; of = Some name; mods = b.current.mods }; fresh = false }
+added b (Mod m) =
+    record {
+      done = b.done;
+      current =
+          record { how = b.current.how; name = b.current.name; of = b.current.of; mods = b.current.mods ++ m ∷ [] };
+      fresh = false;
+    }
 added b (Open how name) = record { done = b.done ++ b.current ∷ []; current = opened how name; fresh = true }
 
 abbrev pub openers_of : Building → List Opener

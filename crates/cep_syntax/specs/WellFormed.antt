@@ -1,5 +1,6 @@
 -- Whether a file is well formed, as each file is that is read. The rules are this project's own.
--- The parts of an expression stand in rows: `end_of-SynExpr` is the empty row, `more_of-SynExpr place node parts` has an expression before the others, and the sign `_` before a row is its shape, which says nothing of the parts.
+-- The parts of an expression stand in rows: `end_of-SynExpr` is the empty row, `more_of-SynExpr place node parts` has an expression before the
+-- others, and the sign `_` before a row is its shape, which says nothing of the parts.
 use Rattle.std.specs.Prelude.{◌≡◌, ℕ, ◌≤◌, Bool, true, false, not, ◌&&◌, nat_le, List, [], ◌∷◌, length, map, codes, Option, Some, None}
 use Rattle.std.specs.List.{list_all, sum_by}
 use Rattle.std.specs.Str.{bytes_eq}

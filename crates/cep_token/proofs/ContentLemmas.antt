@@ -23,11 +23,13 @@ kept (x ∷ xs) rest h =
       no_backslash : (b : ℕ) → 128 ≤ b → (b == 92) ≡ false
       no_backslash b high = grind (arith, nat_tests)
 
-kept_escaped : (xs rest : Text) → 0 < length xs → ((k : ℕ) → k < length xs → 128 ≤ get_or xs k 0) → unescaped_from true (xs ++ rest) ≡ xs ++ unescaped_from false rest
+kept_escaped : (xs rest : Text) → 0 < length xs → ((k : ℕ) → k < length xs → 128 ≤ get_or xs k 0)
+    → unescaped_from true (xs ++ rest) ≡ xs ++ unescaped_from false rest
 kept_escaped [] rest some h = absurd (omega arith)
 kept_escaped (x ∷ xs) rest some h = ap (λ l. x ∷ l) (kept xs rest (λ k lt. h (suc k) (omega arith)))
 
-kept_after : (escaped : Bool) (xs rest : Text) → 0 < length xs → ((k : ℕ) → k < length xs → 128 ≤ get_or xs k 0) → unescaped_from escaped (xs ++ rest) ≡ xs ++ unescaped_from false rest
+kept_after : (escaped : Bool) (xs rest : Text) → 0 < length xs → ((k : ℕ) → k < length xs → 128 ≤ get_or xs k 0)
+    → unescaped_from escaped (xs ++ rest) ≡ xs ++ unescaped_from false rest
 kept_after true xs rest some h = kept_escaped xs rest some h
 kept_after false xs rest some h = kept xs rest h
 

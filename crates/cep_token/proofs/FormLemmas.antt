@@ -34,7 +34,8 @@ equal_is a b e = grind (arith, nat_tests)
 
 -- ---- runs
 
-run_step : (p : ℕ → Bool) (x : ℕ) (z : Text) (b : Bool) → list_all p (take (prefix_len p z) z) ≡ true → p x ≡ b → list_all p (take (cond b (1 + prefix_len p z) 0) (x ∷ z)) ≡ true
+run_step : (p : ℕ → Bool) (x : ℕ) (z : Text) (b : Bool) → list_all p (take (prefix_len p z) z) ≡ true → p x ≡ b
+    → list_all p (take (cond b (1 + prefix_len p z) 0) (x ∷ z)) ≡ true
 run_step p x z true so_far e =
     let n : 1 + prefix_len p z ≡ suc (prefix_len p z) = omega arith in
     subst (λ m. list_all p (take m (x ∷ z)) ≡ true) (sym n) (both_are (p x) (list_all p (take (prefix_len p z) z)) e so_far)
@@ -76,7 +77,8 @@ some_is_not_none l b m e = ap (λ x. not (length x == 0)) e ∙ counted (length 
   counted : (n : ℕ) → not (suc n == 0) ≡ true
   counted n = grind (arith, nat_tests)
 
-number_form : (z : Text) → is_ascii_digit (slice_index z 0) ≡ true → nat_lt GREATEST_NUMBER (value_of (take (run_len class.Digit z) z)) ≡ false → is_number (take (run_len class.Digit z) z) ≡ true
+number_form : (z : Text) → is_ascii_digit (slice_index z 0) ≡ true → nat_lt GREATEST_NUMBER (value_of (take (run_len class.Digit z) z)) ≡ false
+    → is_number (take (run_len class.Digit z) z) ≡ true
 number_form [] h small = cc
 number_form (b ∷ z) h small =
     let front = run_front (is_in class.Digit) b z h in
@@ -101,7 +103,8 @@ closes_before len n k b z x =
     (x.0, record { longer = omega arith; within = omega (arith, x.1.within); quote = ap (λ m. get_or (b ∷ z) m 0) i ∙ x.1.quote })
 
 closes_escaped : (len n : ℕ) (k : TokenKind) (b : ℕ) (z : Text) → ClosesLater false (len + 1) n k z
-    → ((may_be_escaped b ≡ true) × (literal_from false (len + 1) z ≡ Token k n)) ⊎ ((may_be_escaped b ≡ false) × (Fault BAD_CHARACTER (len - 1) ≡ Token k n)) → (k ≡ kind.Literal) × Closes len n (b ∷ z)
+    → ((may_be_escaped b ≡ true) × (literal_from false (len + 1) z ≡ Token k n))
+    ⊎ ((may_be_escaped b ≡ false) × (Fault BAD_CHARACTER (len - 1) ≡ Token k n)) → (k ≡ kind.Literal) × Closes len n (b ∷ z)
 closes_escaped len n k b z later (inl h) = closes_before len n k b z (later h.1)
 closes_escaped len n k b z later (inr h) = let bad = h.1 in cc
 
@@ -109,7 +112,8 @@ ended : (k : TokenKind) (m n : ℕ) → Token kind.Literal m ≡ Token k n → (
 ended k m n h = (cc, cc)
 
 closes_here : (len n : ℕ) (k : TokenKind) (b : ℕ) (z : Text) → ((later : Bool) → ClosesLater later (len + 1) n k z)
-    → ((b == 34 ≡ true) × (Token kind.Literal (len + 1) ≡ Token k n)) ⊎ ((b == 34 ≡ false) × (literal_from (b == 92) (len + 1) z ≡ Token k n)) → (k ≡ kind.Literal) × Closes len n (b ∷ z)
+    → ((b == 34 ≡ true) × (Token kind.Literal (len + 1) ≡ Token k n)) ⊎ ((b == 34 ≡ false) × (literal_from (b == 92) (len + 1) z ≡ Token k n))
+    → (k ≡ kind.Literal) × Closes len n (b ∷ z)
 closes_here len n k b z later (inl h) =
     let x = ended k (len + 1) n h.1 in
     let last : len + 1 ≡ n = x.1 in
@@ -162,22 +166,28 @@ first_is false b h = cc
 symbol_form : (z : Text) (k : TokenKind) (n : ℕ) → symbol (slice_index z 0) (slice_index z 1) ≡ Token k n → has_form k (take n z) ≡ true
 unfolding symbol
 symbol_form [] k n e = cc
-symbol_form (b ∷ []) k n e = one_byte (chosen (is_single b) _ _ (Token k n) (sym (ap (λ t. cond t (Token kind.Symbol 2) (cond (is_single b) (Token kind.Symbol 1) (Fault BAD_CHARACTER 0))) (no_second b)) ∙ e)) where
-  one_byte : ((is_single b ≡ true) × (Token kind.Symbol 1 ≡ Token k n)) ⊎ ((is_single b ≡ false) × (Fault BAD_CHARACTER 0 ≡ Token k n)) → has_form k (take n (b ∷ [])) ≡ true
-  one_byte (inl h) =
-      let is_kind : kind.Symbol ≡ k = (let f = h.1 in cc) in
-      let is_len : 1 ≡ n = (let f = h.1 in cc) in
-      subst (λ c. has_form c (take n (b ∷ [])) ≡ true) is_kind (subst (λ m. is_symbol (take m (b ∷ [])) ≡ true) is_len (first_is (is_single b) _ h.0))
-  one_byte (inr h) = let bad = h.1 in cc
+symbol_form (b ∷ []) k n e =
+    one_byte (chosen (is_single b) _ _ (Token k n)
+    (sym (ap (λ t. cond t (Token kind.Symbol 2) (cond (is_single b) (Token kind.Symbol 1) (Fault BAD_CHARACTER 0))) (no_second b)) ∙ e)) where
+      one_byte : ((is_single b ≡ true) × (Token kind.Symbol 1 ≡ Token k n)) ⊎ ((is_single b ≡ false) × (Fault BAD_CHARACTER 0 ≡ Token k n))
+          → has_form k (take n (b ∷ [])) ≡ true
+      one_byte (inl h) =
+          let is_kind : kind.Symbol ≡ k = (let f = h.1 in cc) in
+          let is_len : 1 ≡ n = (let f = h.1 in cc) in
+          subst (λ c. has_form c (take n (b ∷ [])) ≡ true) is_kind (subst (λ m. is_symbol (take m (b ∷ [])) ≡ true) is_len (first_is (is_single b) _ h.0))
+      one_byte (inr h) = let bad = h.1 in cc
 symbol_form (b ∷ c ∷ z) k n e = cases (chosen (is_pair b c) _ _ (Token k n) e) where
-  one_byte : ((is_single b ≡ true) × (Token kind.Symbol 1 ≡ Token k n)) ⊎ ((is_single b ≡ false) × (Fault BAD_CHARACTER 0 ≡ Token k n)) → has_form k (take n (b ∷ c ∷ z)) ≡ true
+  one_byte : ((is_single b ≡ true) × (Token kind.Symbol 1 ≡ Token k n)) ⊎ ((is_single b ≡ false) × (Fault BAD_CHARACTER 0 ≡ Token k n))
+      → has_form k (take n (b ∷ c ∷ z)) ≡ true
   one_byte (inl h) =
       let is_kind : kind.Symbol ≡ k = (let f = h.1 in cc) in
       let is_len : 1 ≡ n = (let f = h.1 in cc) in
       subst (λ d. has_form d (take n (b ∷ c ∷ z)) ≡ true) is_kind (subst (λ m. is_symbol (take m (b ∷ c ∷ z)) ≡ true) is_len (first_is (is_single b) _ h.0))
   one_byte (inr h) = let bad = h.1 in cc
 
-  cases : ((is_pair b c ≡ true) × (Token kind.Symbol 2 ≡ Token k n)) ⊎ ((is_pair b c ≡ false) × (cond (is_single b) (Token kind.Symbol 1) (Fault BAD_CHARACTER 0) ≡ Token k n)) → has_form k (take n (b ∷ c ∷ z)) ≡ true
+  cases : ((is_pair b c ≡ true) × (Token kind.Symbol 2 ≡ Token k n))
+      ⊎ ((is_pair b c ≡ false) × (cond (is_single b) (Token kind.Symbol 1) (Fault BAD_CHARACTER 0) ≡ Token k n))
+      → has_form k (take n (b ∷ c ∷ z)) ≡ true
   cases (inl h) =
       let is_kind : kind.Symbol ≡ k = (let f = h.1 in cc) in
       let is_len : 2 ≡ n = (let f = h.1 in cc) in
@@ -192,7 +202,8 @@ module _ (z : Text) (k : TokenKind) (n : ℕ) where
 
   quoted : cond (slice_index z 0 == 34) (literal_from false 1 (drop 1 z)) (symbol (slice_index z 0) (slice_index z 1)) ≡ Token k n → Formed
   quoted e = cases (chosen (slice_index z 0 == 34) _ _ (Token k n) e) where
-    cases : ((slice_index z 0 == 34 ≡ true) × (literal_from false 1 (drop 1 z) ≡ Token k n)) ⊎ ((slice_index z 0 == 34 ≡ false) × (symbol (slice_index z 0) (slice_index z 1) ≡ Token k n)) → Formed
+    cases : ((slice_index z 0 == 34 ≡ true) × (literal_from false 1 (drop 1 z) ≡ Token k n))
+        ⊎ ((slice_index z 0 == 34 ≡ false) × (symbol (slice_index z 0) (slice_index z 1) ≡ Token k n)) → Formed
     cases (inl h) = literal_form z k n h.0 h.1
     cases (inr h) = symbol_form z k n h.1
 
@@ -228,11 +239,13 @@ module _ (z : Text) (k : TokenKind) (n : ℕ) where
   abbrev behind_blank : Piece
   behind_blank = cond comments (Gap (run_len class.Comment z)) behind_comment
 
-  digit : ((is_ascii_digit (slice_index z 0) ≡ true) × (number z ≡ Token k n)) ⊎ ((is_ascii_digit (slice_index z 0) ≡ false) × (behind_digit ≡ Token k n)) → Formed
+  digit : ((is_ascii_digit (slice_index z 0) ≡ true) × (number z ≡ Token k n))
+      ⊎ ((is_ascii_digit (slice_index z 0) ≡ false) × (behind_digit ≡ Token k n)) → Formed
   digit (inl h) = digits h.0 h.1
   digit (inr h) = quoted h.1
 
-  word : ((begins_word (slice_index z 0) ≡ true) × (Token kind.Word (run_len class.Word z) ≡ Token k n)) ⊎ ((begins_word (slice_index z 0) ≡ false) × (behind_word ≡ Token k n)) → Formed
+  word : ((begins_word (slice_index z 0) ≡ true) × (Token kind.Word (run_len class.Word z) ≡ Token k n))
+      ⊎ ((begins_word (slice_index z 0) ≡ false) × (behind_word ≡ Token k n)) → Formed
   word (inl h) = words h.0 h.1
   word (inr h) = digit (chosen (is_ascii_digit (slice_index z 0)) _ _ (Token k n) h.1)
 

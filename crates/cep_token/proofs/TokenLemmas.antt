@@ -34,7 +34,8 @@ after-drop place (suc len) b z h =
     let place_is : place + 1 + len ≡ place + suc len = omega arith in
     ap (λ n. tokens_from (place + 1) n z) one ∙ tokens_from-drop len (place + 1) z ∙ ap (λ p. tokens_from p 0 (drop len z)) place_is
 
-pub step_gap : (place len : ℕ) (z : Text) → first_piece z ≡ piece.Gap len → 0 < len → len ≤ length z → tokens_from place 0 z ≡ tokens_from (place + len) 0 (drop len z)
+pub step_gap : (place len : ℕ) (z : Text) → first_piece z ≡ piece.Gap len → 0 < len → len ≤ length z
+    → tokens_from place 0 z ≡ tokens_from (place + len) 0 (drop len z)
 step_gap place len [] e h k = absurd (omega arith)
 step_gap place len (b ∷ z) e h k = ap (λ p. after_piece place p (λ left. tokens_from (place + 1) left z)) e ∙ after-drop place len b z h
 
@@ -65,7 +66,8 @@ module _ (text : Text) (found : List Token) (place : ℕ) where
       → piece.Gap len ≡ first_piece left_of → (0 < len) × (len ≤ length left_of)
       → with_front found (tokens_from (place + len) 0 (drop (place + len) text)) ≡ all
   keeps_gap len all so_far e fits =
-      sym (ap (with_front found) (ap (tokens_from place 0) (sym left_is) ∙ step_gap place len left_of (sym e) fits.0 fits.1 ∙ ap (tokens_from (place + len) 0) (further len))) ∙ so_far
+      sym (ap (with_front found) (ap (tokens_from place 0) (sym left_is) ∙ step_gap place len left_of (sym e) fits.0 fits.1
+      ∙ ap (tokens_from (place + len) 0) (further len))) ∙ so_far
 
   pub keeps_token : (len : ℕ) (kind : TokenKind) (all : Tokens) → with_front found (tokens_from place 0 (drop place text)) ≡ all
       → piece.Token kind len ≡ first_piece left_of → (0 < len) × (len ≤ length left_of)
@@ -93,7 +95,9 @@ module _ (text : Text) (found : List Token) (place : ℕ) where
       record {
         some = omega (arith, fits.0);
         fits = stays_within len h fits.1;
-        formed = subst (λ n. has_form kind (take n (drop place text)) ≡ true) (sym taken) (piece_form (drop place text) kind len (ap first_piece (sym left_is) ∙ sym e));
+        formed =
+            subst (λ n. has_form kind (take n (drop place text)) ≡ true) (sym taken)
+            (piece_form (drop place text) kind len (ap first_piece (sym left_is) ∙ sym e));
       }
 
 -- where the last of the tokens ends, or else the place
@@ -102,7 +106,8 @@ end_of place [] = place
 end_of place (token ∷ tokens) = end_of token.end tokens
 
 -- one more token behind those
-pub in_order-push : (place : ℕ) (tokens : List Token) (token : Token) → AreInOrder place tokens → end_of place tokens ≤ token.start → AreInOrder place (tokens ++ token ∷ [])
+pub in_order-push : (place : ℕ) (tokens : List Token) (token : Token) → AreInOrder place tokens → end_of place tokens ≤ token.start
+    → AreInOrder place (tokens ++ token ∷ [])
 in_order-push place [] token h last = (last, tt)
 in_order-push place (t ∷ tokens) token h last = (h.0, in_order-push t.end tokens token h.1 last)
 

@@ -61,7 +61,8 @@ other_header Rows m text said e = e
 other_header Seed m text said e = e
 other_header Count m text said e = e
 
-other_waiting : (o : Valued) (m : Option Valued) (text : Text) (said : Said) → value_of o said ≡ Some text → value_of o (record said { waiting = m }) ≡ Some text
+other_waiting : (o : Valued) (m : Option Valued) (text : Text) (said : Said) → value_of o said ≡ Some text
+    → value_of o (record said { waiting = m }) ≡ Some text
 other_waiting Lag m text said e = e
 other_waiting Rows m text said e = e
 other_waiting Seed m text said e = e
@@ -75,14 +76,17 @@ other_over Count m text said e = e
 
 position_stays : (o : Valued) (word text : Text) (said : Said) → value_of o said ≡ Some text → Stays o text (with_position word said)
 position_stays o word text said e =
-    branch o text (not (is_some said.mode)) (Some (record said { mode = Some word })) (cond (not (is_some said.file)) (Some (record said { file = Some word })) None)
-    (other_mode o (Some word) text said e) (branch o text (not (is_some said.file)) (Some (record said { file = Some word })) None (other_file o (Some word) text said e) tt)
+    branch o text (not (is_some said.mode)) (Some (record said { mode = Some word }))
+    (cond (not (is_some said.file)) (Some (record said { file = Some word })) None)
+    (other_mode o (Some word) text said e) (branch o text (not (is_some said.file)) (Some (record said { file = Some word })) None
+    (other_file o (Some word) text said e) tt)
 
 header_stays : (o : Valued) (v : Option Text) (text : Text) (said : Said) → value_of o said ≡ Some text → Stays o text (with_header v said)
 header_stays o (Some v) text said e = tt
 header_stays o None text said e = branch o text said.header None (Some (record said { header = true })) tt (other_header o true text said e)
 
-valued_stays : (o : Valued) (option : Option Valued) (v : Option Text) (text : Text) (said : Said) → value_of o said ≡ Some text → Stays o text (with_valued option v said)
+valued_stays : (o : Valued) (option : Option Valued) (v : Option Text) (text : Text) (said : Said) → value_of o said ≡ Some text
+    → Stays o text (with_valued option v said)
 valued_stays o None v text said e = tt
 valued_stays o (Some option) None text said e = other_waiting o (Some option) text said e
 valued_stays o (Some option) (Some v) text said e = value_stays option o v text said e
@@ -99,16 +103,20 @@ first_stays : (o : Valued) (word text : Text) (said : Said) → value_of o said 
 first_stays o word text said e =
     branch o text (bytes_eq word (codes "--")) (Some (record said { is_over = true })) (cond (is_option word) (with_option (without_dashes word) said) (with_position word said))
     (other_over o true text said e)
-    (branch o text (is_option word) (with_option (without_dashes word) said) (with_position word said) (option_stays o (without_dashes word) text said e) (position_stays o word text said e))
+    (branch o text (is_option word) (with_option (without_dashes word) said) (with_position word said)
+    (option_stays o (without_dashes word) text said e) (position_stays o word text said e))
 
-next_stays : (o : Valued) (waiting : Option Valued) (word text : Text) (said : Said) → value_of o said ≡ Some text → Stays o text (with_next_word waiting word said)
+next_stays : (o : Valued) (waiting : Option Valued) (word text : Text) (said : Said) → value_of o said ≡ Some text
+    → Stays o text (with_next_word waiting word said)
 next_stays o None word text said e = first_stays o word text said e
 next_stays o (Some option) word text said e =
-    branch o text (is_option word) None (with_value option word (record said { waiting = None })) tt (value_stays option o word text (record said { waiting = None }) (other_waiting o None text said e))
+    branch o text (is_option word) None (with_value option word (record said { waiting = None })) tt
+    (value_stays option o word text (record said { waiting = None }) (other_waiting o None text said e))
 
 word_stays : (o : Valued) (word text : Text) (said : Said) → value_of o said ≡ Some text → Stays o text (with_any_word word said)
 word_stays o word text said e =
-    branch o text said.is_over (with_position word said) (with_next_word said.waiting word said) (position_stays o word text said e) (next_stays o said.waiting word text said e)
+    branch o text said.is_over (with_position word said) (with_next_word said.waiting word said) (position_stays o word text said e)
+    (next_stays o said.waiting word text said e)
 
 -- ---- a dash is no number
 
@@ -138,10 +146,18 @@ no_count (Some m) (Some l) (Some r) h None = refl
 no_count (Some m) (Some l) (Some r) h (Some s) = refl
 
 no_options : (o : Valued) (said : Said) → value_of o said ≡ Some dash → options_in said ≡ None
-no_options Lag said e = ap (λ l. options_with (option_and_then mode_named said.mode) (lag_of l) (rows_of said.rows) said.header (seed_of said.seed) (count_of said.count)) e ∙ no_lag _ _ _ _ _
-no_options Rows said e = ap (λ l. options_with (option_and_then mode_named said.mode) (lag_of said.lag) (rows_of l) said.header (seed_of said.seed) (count_of said.count)) e ∙ no_rows _ _ _ _ _
-no_options Seed said e = ap (λ l. options_with (option_and_then mode_named said.mode) (lag_of said.lag) (rows_of said.rows) said.header (seed_of l) (count_of said.count)) e ∙ no_seed _ _ _ _ _
-no_options Count said e = ap (λ l. options_with (option_and_then mode_named said.mode) (lag_of said.lag) (rows_of said.rows) said.header (seed_of said.seed) (count_of l)) e ∙ no_count _ _ _ _ _
+no_options Lag said e =
+    ap (λ l. options_with (option_and_then mode_named said.mode) (lag_of l) (rows_of said.rows) said.header (seed_of said.seed)
+    (count_of said.count)) e ∙ no_lag _ _ _ _ _
+no_options Rows said e =
+    ap (λ l. options_with (option_and_then mode_named said.mode) (lag_of said.lag) (rows_of l) said.header (seed_of said.seed) (count_of said.count))
+    e ∙ no_rows _ _ _ _ _
+no_options Seed said e =
+    ap (λ l. options_with (option_and_then mode_named said.mode) (lag_of said.lag) (rows_of said.rows) said.header (seed_of l) (count_of said.count))
+    e ∙ no_seed _ _ _ _ _
+no_options Count said e =
+    ap (λ l. options_with (option_and_then mode_named said.mode) (lag_of said.lag) (rows_of said.rows) said.header (seed_of said.seed) (count_of l))
+    e ∙ no_count _ _ _ _ _
 
 abbrev Read : Type 0
 Read = Options × Text
@@ -152,10 +168,13 @@ no_name (Some name) = refl
 
 no_command : (o : Valued) (said : Said) → value_of o said ≡ Some dash → command_in said ≡ None
 no_command o said e =
-    ap (λ options. cond {A = Option Read} (is_some said.waiting) None (option_and_then {U = Read} (λ name. option_map (λ options. (options, name)) options) said.file)) (no_options o said e)
+    ap (λ options. cond {A = Option Read} (is_some said.waiting) None
+    (option_and_then {U = Read} (λ name. option_map (λ options. (options, name)) options) said.file)) (no_options o said e)
     ∙ go (is_some said.waiting)
   where
-    go : (b : Bool) → cond {A = Option Read} b None (option_and_then {U = Read} (λ (name : Text). option_map (λ (options : Options). (options, name)) None) said.file) ≡ None
+    go : (b : Bool)
+        → cond {A =
+        Option Read} b None (option_and_then {U = Read} (λ (name : Text). option_map (λ (options : Options). (options, name)) None) said.file) ≡ None
     go true = refl
     go false = no_name said.file
 
@@ -172,27 +191,34 @@ dash_given Count said = branch Count dash (is_some said.count) None (Some (recor
 
 -- ---- both rules come to the same
 
-after : (words : List Text) → ((said : Said) → option_and_then command_in (said_by words said) ≡ option_and_then command_in (said_with words said)) → (r : Option Said)
+after : (words : List Text) → ((said : Said) → option_and_then command_in (said_by words said) ≡ option_and_then command_in (said_with words said))
+    → (r : Option Said)
     → option_and_then command_in (option_and_then (said_by words) r) ≡ option_and_then command_in (option_and_then (said_with words) r)
 after words same None = refl
 after words same (Some said) = same said
 
-value_same : (o : Valued) (word : Text) (words : List Text) (said : Said) → ((said : Said) → option_and_then command_in (said_by words said) ≡ option_and_then command_in (said_with words said))
+value_same : (o : Valued) (word : Text) (words : List Text) (said : Said)
+    → ((said : Said) → option_and_then command_in (said_by words said) ≡ option_and_then command_in (said_with words said))
     → option_and_then command_in (option_and_then (said_by words) (cond (begins_with_dash word) None (with_value o word said)))
     ≡ option_and_then command_in (option_and_then (said_with words) (cond (is_option word) None (with_value o word said)))
 value_same o [] words said same = after words same (with_value o [] said)
 value_same o (b ∷ c ∷ bytes) words said same = after words same (cond (b == 45) None (with_value o (b ∷ c ∷ bytes) said))
 value_same o (b ∷ []) words said same = go (b == 45) refl
   where
-    go : (t : Bool) → (b == 45) ≡ t → option_and_then command_in (option_and_then (said_by words) (cond t None (with_value o (b ∷ []) said))) ≡ option_and_then command_in (option_and_then (said_with words) (with_value o (b ∷ []) said))
+    go : (t : Bool) → (b == 45) ≡ t
+        → option_and_then command_in (option_and_then (said_by words) (cond t None (with_value o (b ∷ []) said)))
+        ≡ option_and_then command_in (option_and_then (said_with words) (with_value o (b ∷ []) said))
     go false e = after words same (with_value o (b ∷ []) said)
-    go true e = sym (subst (λ n. option_and_then command_in (option_and_then (said_with words) (with_value o (n ∷ []) said)) ≡ None) (sym (eqb-true b 45 e)) (comes_to_nothing o words (with_value o dash said) (dash_given o said)))
+    go true e =
+        sym (subst (λ n. option_and_then command_in (option_and_then (said_with words) (with_value o (n ∷ []) said)) ≡ None) (sym (eqb-true b 45 e))
+        (comes_to_nothing o words (with_value o dash said) (dash_given o said)))
 
 pub same_command : (words : List Text) (said : Said) → option_and_then command_in (said_by words said) ≡ option_and_then command_in (said_with words said)
 same_command [] said = refl
 same_command (word ∷ words) said = go (same_command words) said.is_over said.waiting
   where
-    go : ((said : Said) → option_and_then command_in (said_by words said) ≡ option_and_then command_in (said_with words said)) → (over : Bool) (waiting : Option Valued)
+    go : ((said : Said) → option_and_then command_in (said_by words said) ≡ option_and_then command_in (said_with words said))
+        → (over : Bool) (waiting : Option Valued)
         → option_and_then command_in (option_and_then (said_by words) (cond over (with_position word said) (with_next waiting word said)))
         ≡ option_and_then command_in (option_and_then (said_with words) (cond over (with_position word said) (with_next_word waiting word said)))
     go same true waiting = after words same (with_position word said)

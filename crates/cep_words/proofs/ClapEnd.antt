@@ -34,7 +34,8 @@ Defaultless [] = ⊤
 Defaultless (a ∷ rest) = (a.defaults ≡ []) × Defaultless rest
 
 defaultless_row : (rows : List Row) (a : Rule) → a.defaults ≡ [] → with_default rows a ≡ rows
-defaultless_row rows a none = ap (λ defaults. cond (has_row a.id rows) rows (default_rows a.id (reading_by a) defaults rows)) none ∙ unchanged (has_row a.id rows) rows
+defaultless_row rows a none = ap (λ defaults. cond (has_row a.id rows) rows (default_rows a.id (reading_by a) defaults rows)) none
+    ∙ unchanged (has_row a.id rows) rows
 
 defaultless_rows : (rest : List Rule) (rows : List Row) → Defaultless rest → fold with_default rows rest ≡ rows
 defaultless_rows [] rows none = refl
@@ -44,7 +45,8 @@ defaultless_fault : (rest more : List Rule) (rows : List Row) → Defaultless re
 unfolding defaults_fault
 defaultless_fault [] more rows none = refl
 defaultless_fault (a ∷ rest) more rows none =
-    ap (λ defaults. or_else (cond (has_row a.id rows || is_empty defaults) [] (given_default_fault a defaults)) (defaults_fault (with_default rows a) (rest ++ more))) none.0
+    ap (λ defaults. or_else (cond (has_row a.id rows || is_empty defaults) [] (given_default_fault a defaults))
+    (defaults_fault (with_default rows a) (rest ++ more))) none.0
     ∙ ap (λ b. or_else (cond b [] (given_default_fault a [])) (defaults_fault (with_default rows a) (rest ++ more))) (or-true (has_row a.id rows))
     ∙ ap (λ r. defaults_fault r (rest ++ more)) (defaultless_row rows a none.0) ∙ defaultless_fault rest more rows none.1
 
@@ -99,7 +101,8 @@ module _ (rows : List Row) (us : List Use) (shows : Shows rows us) where
   is_explicit o = option_map_or (λ p. explicit_source p.1) o false
 
   given_used : (id : Text) → bytes_eq (codes "header") id ≡ false → is_given id (fold with_default rows rules) ≡ is_some (lookup id us)
-  given_used id other = row_given (find (λ (r : Row). bytes_eq r.id id) (fold with_default rows rules)) ∙ ap is_explicit (values_after id other) ∙ use_given (lookup id us)
+  given_used id other = row_given (find (λ (r : Row). bytes_eq r.id id) (fold with_default rows rules)) ∙ ap is_explicit (values_after id other)
+      ∙ use_given (lookup id us)
     where
       row_given : (o : Option Row) → option_map_or (λ (r : Row). explicit_source r.source) o false ≡ is_explicit (option_map shown o)
       row_given None = refl

@@ -83,7 +83,8 @@ abbrev pub named : Options × Bor Text → Options × Text
 named read = (read.0, read.1.now)
 
 -- what the code reads of the matches
-pub read_of : {Z : Type 0} (words : List (String Z)) (rows : List Row) (said : Texts) (read : Option (Options × Bor Text)) → fault_of cep_app (map string_bytes words) ≡ []
+pub read_of : {Z : Type 0} (words : List (String Z)) (rows : List Row) (said : Texts) (read : Option (Options × Bor Text))
+    → fault_of cep_app (map string_bytes words) ≡ []
     → rows ≡ matches_of cep_app (map string_bytes words) → said_of said ≡ said_of_rows rows → option_map named read ≡ command_in (said_of said)
     → command_of (map string_bytes words) ≡ option_map named read
 read_of words rows said read none same is gives =

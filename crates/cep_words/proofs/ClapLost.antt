@@ -67,7 +67,10 @@ lost_idle [] texts rows p k e = fails_first (settle rows p) _ e
 lost_idle (word ∷ rest) texts rows p k e =
     by_form (λ word. IsUtf8 word → fails (faults (at_walk rows p idle k false) (word ∷ rest)) ≡ true)
     (λ valid. ap fails (turn_goes_on (at_walk rows p idle k false) (at_walk rows p idle k true) (45 ∷ 45 ∷ []) rest refl refl) ∙ lost_over rest rows p idle k e)
-    (λ x xs valid. turn_fails (at_walk rows p idle k false) (45 ∷ 45 ∷ x ∷ xs) rest (fails_first (word_fault top [] false idle (45 ∷ 45 ∷ x ∷ xs) (held rows p)) _ (long_fails (arg_by_long rules (Rattle.clap.specs.Lexer.name_and_value (x ∷ xs)).0) (Rattle.clap.specs.Lexer.name_and_value (x ∷ xs)).1 rows p e)))
+    (λ x xs valid. turn_fails (at_walk rows p idle k false) (45 ∷ 45 ∷ x ∷ xs) rest
+    (fails_first (word_fault top [] false idle (45 ∷ 45 ∷ x ∷ xs) (held rows p)) _
+    (long_fails (arg_by_long rules (Rattle.clap.specs.Lexer.name_and_value (x ∷ xs)).0) (Rattle.clap.specs.Lexer.name_and_value (x ∷ xs)).1 rows
+    p e)))
     (λ c xs apart valid. turn_fails (at_walk rows p idle k false) (45 ∷ c ∷ xs) rest (short_turn c xs rows p k apart valid))
     (λ word plain valid. turn_fails (at_walk rows p idle k false) word rest (ap fails (plain_turn rows p k word plain) ∙ stray k rows p e))
     word texts.0

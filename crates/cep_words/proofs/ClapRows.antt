@@ -51,7 +51,8 @@ shows_more id v how rows us shows unused j =
     ap (option_map shown) (find-append (λ (r : Row). bytes_eq r.id j) rows (row_with id how CommandLine v ∷ [])) ∙ go (bytes_eq id j) refl
   where
     go : (b : Bool) → bytes_eq id j ≡ b
-        → option_map shown (option_or (find (λ r. bytes_eq r.id j) rows) (cond b (Some (row_with id how CommandLine v)) None)) ≡ option_map marked (cond b (Some v) (lookup j us))
+        → option_map shown (option_or (find (λ r. bytes_eq r.id j) rows) (cond b (Some (row_with id how CommandLine v)) None))
+        ≡ option_map marked (cond b (Some v) (lookup j us))
     go false e = ap (option_map shown) (or_none (find (λ (r : Row). bytes_eq r.id j) rows)) ∙ shows j
     go true e =
         let same : id ≡ j = (bytes_eq-Decides id j).0 e in
@@ -85,7 +86,8 @@ at_absent : (id : Text) (change : Row → List Row) (missing rows : List Row) �
 at_absent id change missing [] e = refl
 at_absent id change missing (r ∷ rs) e = go (bytes_eq r.id id) (at_absent id change missing rs) e
   where
-    go : (b : Bool) → (has_row id rs ≡ false → at_row id change missing rs ≡ rs ++ missing) → (b || has_row id rs) ≡ false → cond b (change r ++ rs) (r ∷ at_row id change missing rs) ≡ r ∷ (rs ++ missing)
+    go : (b : Bool) → (has_row id rs ≡ false → at_row id change missing rs ≡ rs ++ missing) → (b || has_row id rs) ≡ false
+        → cond b (change r ++ rs) (r ∷ at_row id change missing rs) ≡ r ∷ (rs ++ missing)
     go true rest e = absurd (true≢false e)
     go false rest e = ap (λ l. r ∷ l) (rest e)
 
@@ -111,12 +113,15 @@ shown_before id j v how source rows e =
 pub first_seen : (id : Text) (rows : List Row) → first_of id rows ≡ option_and_then (λ p. slice_get p.0 0) (seen id rows)
 first_seen id rows = go (find (λ (r : Row). bytes_eq r.id id) rows)
   where
-    go : (o : Option Row) → option_and_then (λ (r : Row). slice_get r.values 0) o ≡ option_and_then (λ (p : List Text × Option ValueSource). slice_get p.0 0) (option_map shown o)
+    go : (o : Option Row)
+        → option_and_then (λ (r : Row). slice_get r.values 0) o
+        ≡ option_and_then (λ (p : List Text × Option ValueSource). slice_get p.0 0) (option_map shown o)
     go None = refl
     go (Some r) = refl
 
 -- the first value of an argument that had no row
-pub first_added : (id v : Text) (how : Reading) (source : ValueSource) (rows : List Row) → has_row id rows ≡ false → first_of id (rows ++ row_with id how source v ∷ []) ≡ Some v
+pub first_added : (id v : Text) (how : Reading) (source : ValueSource) (rows : List Row) → has_row id rows ≡ false
+    → first_of id (rows ++ row_with id how source v ∷ []) ≡ Some v
 first_added id v how source rows e =
     ap (option_and_then (λ (r : Row). slice_get r.values 0)) (find-append (λ (r : Row). bytes_eq r.id id) rows (row_with id how source v ∷ [])
     ∙ ap (λ o. option_or o (cond (bytes_eq id id) (Some (row_with id how source v)) None)) nothing

@@ -102,7 +102,8 @@ with_row id v how rows = with_values id how CommandLine (v ∷ []) (without id r
 abbrev with_use : Option Text → Text → Text → List Use → Option Said
 with_use before id v us = cond (is_some before) None (Some (said_from ((id, v) ∷ us) None false))
 
-shows_use : (id v : Text) (how : Reading) (rows : List Row) (us : List Use) → Shows rows us → lookup id us ≡ None → Shows (with_row id v how rows) ((id, v) ∷ us)
+shows_use : (id v : Text) (how : Reading) (rows : List Row) (us : List Use) → Shows rows us → lookup id us ≡ None
+    → Shows (with_row id v how rows) ((id, v) ∷ us)
 shows_use id v how rows us shows unused =
     subst (λ r. Shows r ((id, v) ∷ us)) (sym (added id v how CommandLine rows (absent id rows us shows unused))) (shows_more id v how rows us shows unused)
 
@@ -181,7 +182,8 @@ module _ (rest : List Text) (texts : AreTexts rest) (idles : IdleRun rest) (wait
       settles = option_settles o (word ∷ []) rows
 
       go : (l : Option Text) → lookup (id_of o) us ≡ l → Agree later rest (with_use l (id_of o) word us)
-      go None unused = idles _ _ ((id_of o, word) ∷ us) _ _ (holds_use (id_of o) word rows us k settles (ap (λ a. used_by_id a (word ∷ []) rows) (known o).by_id)
+      go None unused =
+          idles _ _ ((id_of o, word) ∷ us) _ _ (holds_use (id_of o) word rows us k settles (ap (λ a. used_by_id a (word ∷ []) rows) (known o).by_id)
           holds.shows unused ((known o).kept word us k holds.kept))
       go (Some x) again = refuses (lost_idle rest texts rows (Some (id_of o, word ∷ [])) k
           (ap fails settles ∙ ap (λ b. fails (conflict b)) (has_row_used (id_of o) rows us holds.shows ∙ ap is_some again))) refl
@@ -218,7 +220,8 @@ module _ (rest : List Text) (texts : AreTexts rest) (idles : IdleRun rest) (wait
     -- what is to be shown of it, where the rule reads its value so
     abbrev Long : Option Rule → (Option Text → Option Said) → Type 0
     Long found read = (v : Option Text)
-        → Turn (at k false) word (long_kinds found v) (after_step rules word (at k false) (long_step found v).0 (long_step found v).1) → Agree (at k false) (word ∷ rest) (read v)
+        → Turn (at k false) word (long_kinds found v) (after_step rules word (at k false) (long_step found v).0 (long_step found v).1)
+        → Agree (at k false) (word ∷ rest) (read v)
 
     option_long : (o : Valued) → Long (Some (valued (id_of o))) (λ v. with_valued (Some o) v (said_from us None false))
     option_long o None turn =
@@ -231,7 +234,8 @@ module _ (rest : List Text) (texts : AreTexts rest) (idles : IdleRun rest) (wait
 
     other_long : (n : Text) → IsOther n → Long (arg_by_long rules n) (λ v. with_named n v (said_from us None false))
     other_long n other v turn =
-        judged_no (ap fails turn.0 ∙ ap (λ found. fails (long_kinds found v)) (no_argument n other)) (nothing_is (no_option n v (said_from us None false) other))
+        judged_no (ap fails turn.0 ∙ ap (λ found. fails (long_kinds found v)) (no_argument n other))
+        (nothing_is (no_option n v (said_from us None false) other))
 
     any_long : (n : Text) → Long (arg_by_long rules n) (λ v. with_named n v (said_from us None false))
     any_long = by_name (λ n. Long (arg_by_long rules n) (λ v. with_named n v (said_from us None false)))
@@ -298,11 +302,13 @@ module _ (rest : List Text) (texts : AreTexts rest) (idles : IdleRun rest) (wait
   unfolding walked
   waits_step word valid rows us k o holds =
       by_form (λ word. IsUtf8 word → Agree (waiting o rows k false) (word ∷ rest) (with_any_word word (said_from us (Some o) false)))
-      (λ valid. judged_on {later = waiting o rows k true} (refl, refl) (refuses (lost_over rest rows (Some (id_of o, [])) (option (id_of o)) k (empty_fails o rows)) refl))
+      (λ valid. judged_on {later = waiting o rows k true} (refl, refl)
+      (refuses (lost_over rest rows (Some (id_of o, [])) (option (id_of o)) k (empty_fails o rows)) refl))
       (λ x xs valid. judged_no (fails_first (word_fault top [] false (option (id_of o)) (45 ∷ 45 ∷ x ∷ xs) (held rows (Some (id_of o, [])))) _
       (long_fails (arg_by_long rules (name_and_value (x ∷ xs)).0) (name_and_value (x ∷ xs)).1 rows (Some (id_of o, [])) (empty_fails o rows))) refl)
       (λ c xs apart valid. judged_no (short_value_turn (id_of o) c xs rows (Some (id_of o, [])) k apart valid) refl)
-      (λ word plain valid. agree_as (ap (λ b. cond b None (with_value o word (said_from us None false))) plain.option) (value_step o word rows us k holds plain))
+      (λ word plain valid. agree_as (ap (λ b. cond b None (with_value o word (said_from us None false))) plain.option)
+      (value_step o word rows us k holds plain))
       word valid
 
 -- ---- all words
@@ -348,6 +354,7 @@ pub fault_is : (words : List Text) → fault_of cep_app words ≡ faults (walk_f
 fault_is words = go (walk rules [] nothing_held words).stopped
   where
     go : (stop : Option (Text × List Text))
-        → level_fault top [] nothing_held words (is_some (entered (built cep_app) stop)) (entered_fault (built cep_app) stop) ≡ faults (walk_from nothing_held) words
+        → level_fault top [] nothing_held words (is_some (entered (built cep_app) stop)) (entered_fault (built cep_app) stop)
+        ≡ faults (walk_from nothing_held) words
     go None = refl
     go (Some p) = refl

@@ -24,7 +24,9 @@ settle rows p = settle_fault rules false (held rows p)
 
 -- what may go wrong after the words
 abbrev pub end_fault : Walk → Kinds
-end_fault w = or_else (settle_fault rules false w.held) (or_else (defaults_fault (settled rules w.held).rows rules) (check_fault top (finished rules w.held) false))
+end_fault w =
+    or_else (settle_fault rules false w.held) (or_else (defaults_fault (settled rules w.held).rows rules)
+    (check_fault top (finished rules w.held) false))
 
 abbrev pub last : Walk → List Text → Walk
 last w words = fold (walked rules []) w words
@@ -45,7 +47,8 @@ pub turn_fails : (w : Walk) (word : Text) (rest : List Text) → fails (turn_fau
 unfolding walk_fault
 turn_fails w word rest e = fails_first _ _ (fails_first (turn_fault top [] w word) _ e)
 
-pub turn_goes_on : (w next : Walk) (word : Text) (rest : List Text) → turn_fault top [] w word ≡ [] → walked rules [] w word ≡ next → faults w (word ∷ rest) ≡ faults next rest
+pub turn_goes_on : (w next : Walk) (word : Text) (rest : List Text) → turn_fault top [] w word ≡ [] → walked rules [] w word ≡ next
+    → faults w (word ∷ rest) ≡ faults next rest
 unfolding walk_fault
 turn_goes_on w next word rest e is =
     ap (λ t. or_else (or_else t (walk_fault top [] (walked rules [] w word) rest)) (end_fault (last (walked rules [] w word) rest))) e
@@ -71,7 +74,8 @@ plain_met k word h plain =
     ∙ ap (λ l. long_or_other rules idle word l h) plain.long
     ∙ ap (λ s. short_or_plain rules idle word s h) plain.short
 
-pub plain_value_met : (id : Text) (k : ℕ) (word : Text) (h : Held) → IsPlain word → word_met rules [] false (option id) k word h ≡ short_or_plain rules (option id) word None h
+pub plain_value_met : (id : Text) (k : ℕ) (word : Text) (h : Held) → IsPlain word
+    → word_met rules [] false (option id) k word h ≡ short_or_plain rules (option id) word None h
 plain_value_met id k word h plain =
     ap (λ b. cond b (h, trailing k) (long_or_other rules (option id) word (long_of word) h)) plain.dashes
     ∙ ap (λ l. long_or_other rules (option id) word l h) plain.long
@@ -80,18 +84,22 @@ plain_value_met id k word h plain =
 -- ---- options that are refused
 
 -- a short option
-pub short_fails : (c : ℕ) (xs : Text) (rows : List Row) (p : Option (Text × List Text)) → IsUtf8 (45 ∷ c ∷ xs) → fails (bundle_fault rules false (c ∷ xs) (held rows p)) ≡ true
+pub short_fails : (c : ℕ) (xs : Text) (rows : List Row) (p : Option (Text × List Text)) → IsUtf8 (45 ∷ c ∷ xs)
+    → fails (bundle_fault rules false (c ∷ xs) (held rows p)) ≡ true
 unfolding flags_fault
 short_fails c xs rows p valid =
     let first = has_character c xs valid in
     ap (λ cs. fails (bundle_step_fault rules false (slice_get cs 0) (c ∷ xs) 0 (held rows p) (flags_fault rules false (length xs)))) first.2
 
 -- an option while what is pending can't be used
-pub long_fails : (found : Option Rule) (v : Option Text) (rows : List Row) (p : Option (Text × List Text)) → fails (settle rows p) ≡ true → fails (long_fault rules false found v (held rows p)) ≡ true
+pub long_fails : (found : Option Rule) (v : Option Text) (rows : List Row) (p : Option (Text × List Text)) → fails (settle rows p) ≡ true
+    → fails (long_fault rules false found v (held rows p)) ≡ true
 long_fails None v rows p e = refl
 long_fails (Some a) v rows p e = go (takes_values a) v
   where
-    go : (b : Bool) (v : Option Text) → fails (cond b (option_fault rules false a v (held rows p)) (cond (is_some v) (kind.TooManyValues ∷ []) (react_fault rules false a [] (held rows p)))) ≡ true
+    go : (b : Bool) (v : Option Text)
+        → fails (cond b (option_fault rules false a v (held rows p))
+        (cond (is_some v) (kind.TooManyValues ∷ []) (react_fault rules false a [] (held rows p)))) ≡ true
     go true None = e
     go true (Some t) = fails_first (settle rows p) _ e
     go false None = fails_first (settle rows p) _ e

@@ -31,7 +31,8 @@ other_is_plain b (c ∷ bytes) e = record {
 }
 
 -- a word is `--`, or `--` and more, or a dash and more, or plain
-pub by_form : (P : Text → Type 0) → P (45 ∷ 45 ∷ []) → ((x : ℕ) (xs : Text) → P (45 ∷ 45 ∷ x ∷ xs)) → ((c : ℕ) (xs : Text) → (c == 45) ≡ false → P (45 ∷ c ∷ xs))
+pub by_form : (P : Text → Type 0) → P (45 ∷ 45 ∷ []) → ((x : ℕ) (xs : Text) → P (45 ∷ 45 ∷ x ∷ xs))
+    → ((c : ℕ) (xs : Text) → (c == 45) ≡ false → P (45 ∷ c ∷ xs))
     → ((word : Text) → IsPlain word → P word) → (word : Text) → P word
 by_form P dashes long short plain [] = plain [] (record { option = refl; dashes = refl; long = refl; short = refl })
 by_form P dashes long short plain (b ∷ bytes) = go (b == 45) refl

@@ -24,15 +24,19 @@ untested : (digits : Bool) (n v : ℕ) → ((digits ≡ true) × (0 < n) × (v <
 untested true n v refused = grind (arith, nat_tests)
 untested false n v refused = ap (λ (b : Bool). b && (leb 0 v && leb v 18446744073709551615)) (and-false (ltb 0 n))
 
-told : {E : Type 0} (text : List ℕ) (r : Result ℕ E) → OkIff r ((all_ascii_digits text ≡ true) × (0 < length text) × (digits_value 10 text < 2 ^ 64)) (digits_value 10 text)
+told : {E : Type 0} (text : List ℕ) (r : Result ℕ E)
+    → OkIff r ((all_ascii_digits text ≡ true) × (0 < length text) × (digits_value 10 text < 2 ^ 64)) (digits_value 10 text)
     → result_ok r ≡ number_within 0 18446744073709551615 text
 told text (Ok x) h =
-    ap Some h.1 ∙ sym (ap (λ (b : Bool). cond b (Some (digits_value 10 text)) None) (tests (all_ascii_digits text) (length text) (digits_value 10 text) h.0.0 h.0.1 h.0.2))
+    ap Some h.1
+    ∙ sym (ap (λ (b : Bool). cond b (Some (digits_value 10 text)) None)
+    (tests (all_ascii_digits text) (length text) (digits_value 10 text) h.0.0 h.0.1 h.0.2))
 told text (Err e) h =
     sym (ap (λ (b : Bool). cond b (Some (digits_value 10 text)) None) (untested (all_ascii_digits text) (length text) (digits_value 10 text) h))
 
 -- what `parse` reads where no plus stands first
-pub parsed : {E : Type 0} (text : List ℕ) (r : Result ℕ E) → ParsesUnsigned 64 10 text r → slice_index text 0 ≢ 43 → result_ok r ≡ number_within 0 18446744073709551615 text
+pub parsed : {E : Type 0} (text : List ℕ) (r : Result ℕ E) → ParsesUnsigned 64 10 text r → slice_index text 0 ≢ 43
+    → result_ok r ≡ number_within 0 18446744073709551615 text
 parsed text r h plain = told text r (parse_plain own 64 text r h plain)
 
 plus : (c : ℕ) → c ≡ 43 → is_ascii_digit c ≡ false
@@ -42,8 +46,10 @@ plus c e = grind (arith, nat_tests)
 pub signed : (least most : ℕ) (text : List ℕ) → slice_index text 0 ≡ 43 → number_within least most text ≡ None
 signed least most [] e = absurd (omega (arith, e))
 signed least most (c ∷ cs) e =
-    ap (λ (b : Bool). cond ((ltb 0 (length (c ∷ cs)) && (b && all_ascii_digits cs)) && (leb least (digits_value 10 (c ∷ cs)) && leb (digits_value 10 (c ∷ cs)) most)) (Some (digits_value 10 (c ∷ cs))) None) (plus c e)
-    ∙ ap (λ (b : Bool). cond (b && (leb least (digits_value 10 (c ∷ cs)) && leb (digits_value 10 (c ∷ cs)) most)) (Some (digits_value 10 (c ∷ cs))) None) (and-false (ltb 0 (length (c ∷ cs))))
+    ap (λ (b : Bool). cond ((ltb 0 (length (c ∷ cs)) && (b && all_ascii_digits cs))
+    && (leb least (digits_value 10 (c ∷ cs)) && leb (digits_value 10 (c ∷ cs)) most)) (Some (digits_value 10 (c ∷ cs))) None) (plus c e)
+    ∙ ap (λ (b : Bool). cond (b && (leb least (digits_value 10 (c ∷ cs)) && leb (digits_value 10 (c ∷ cs)) most)) (Some (digits_value 10 (c ∷ cs)))
+    None) (and-false (ltb 0 (length (c ∷ cs))))
 
 -- a first byte that is tested not to be a plus
 pub is_not : (n : ℕ) → eqb n 43 ≡ false → n ≢ 43

@@ -5,6 +5,10 @@
 #[cfg(test)]
 mod edges;
 #[cfg(test)]
+mod failing;
+#[cfg(test)]
+mod gauges;
+#[cfg(test)]
 mod loads;
 #[cfg(test)]
 mod options;
@@ -12,5 +16,7 @@ mod options;
 mod patterns;
 #[cfg(test)]
 mod sessions;
+#[cfg(test)]
+mod sizes;
 #[cfg(test)]
 mod statuses;

@@ -28,33 +28,33 @@ const CASES: [Case; 12] = [
     Case {
         name: "one row makes no pair",
         words: &["load", "p", "--count", "1"],
-        output: b"rows 1\nlate 0\nmatches 0\ntimeouts 0\n",
+        output: b"rows 1\nlate 0\nmatches 0\ntimeouts 0\ngreatest held 0\n",
         ..PLAIN
     },
     Case {
         name: "one row of another seed",
         words: &["load", "p", "--count=1", "--seed=7"],
-        output: b"rows 1\nlate 0\nmatches 0\ntimeouts 0\n",
+        output: b"rows 1\nlate 0\nmatches 0\ntimeouts 0\ngreatest held 1\n",
         ..PLAIN
     },
     // The types are B, A, B, A, B, B: two pairs.
     Case {
         name: "six rows",
         words: &["load", "p", "--count", "6"],
-        output: b"rows 6\nlate 0\nmatches 2\ntimeouts 0\n",
+        output: b"rows 6\nlate 0\nmatches 2\ntimeouts 0\ngreatest held 1\n",
         ..PLAIN
     },
     // The types are A, B, B, B, B, B: one pair.
     Case {
         name: "six rows of another seed",
         words: &["load", "--seed", "7", "p", "--count", "6"],
-        output: b"rows 6\nlate 0\nmatches 1\ntimeouts 0\n",
+        output: b"rows 6\nlate 0\nmatches 1\ntimeouts 0\ngreatest held 1\n",
         ..PLAIN
     },
     // Another program counted 243 places where B follows A directly.
     Case {
         name: "as many rows as by default",
-        output: b"rows 1000\nlate 0\nmatches 243\ntimeouts 0\n",
+        output: b"rows 1000\nlate 0\nmatches 243\ntimeouts 0\ngreatest held 1\n",
         ..PLAIN
     },
     // Each row but the last two begins a match, and none is late.
@@ -62,7 +62,7 @@ const CASES: [Case; 12] = [
         name: "one type: matches are the count less 2",
         words: &["load", "p", "--count", "1000", "--seed", "7"],
         file: ONE_TYPE,
-        output: b"rows 1000\nlate 0\nmatches 998\ntimeouts 0\n",
+        output: b"rows 1000\nlate 0\nmatches 998\ntimeouts 0\ngreatest held 2\n",
         ..PLAIN
     },
     // The same program counted 265 places where no B follows A directly, the last row among them if it is A.
@@ -70,26 +70,26 @@ const CASES: [Case; 12] = [
         name: "a time limit, with a lag",
         words: &["load", "p", "--lag=3"],
         file: LIMITED,
-        output: b"rows 1000\nlate 0\nmatches 243\ntimeouts 265\n",
+        output: b"rows 1000\nlate 0\nmatches 243\ntimeouts 265\ngreatest held 2\n",
         ..PLAIN
     },
     Case {
         name: "a time limit, and all released by the end",
         file: LIMITED,
-        output: b"rows 1000\nlate 0\nmatches 243\ntimeouts 265\n",
+        output: b"rows 1000\nlate 0\nmatches 243\ntimeouts 265\ngreatest held 2\n",
         ..PLAIN
     },
     Case {
         name: "no type: marks alone",
         words: &["load", "p", "--count", "5"],
         file: NO_TYPE,
-        output: b"rows 5\nlate 0\nmatches 0\ntimeouts 0\n",
+        output: b"rows 5\nlate 0\nmatches 0\ntimeouts 0\ngreatest held 0\n",
         ..PLAIN
     },
     Case {
         name: "options of a run, in a load run",
         words: &["load", "--rows", "1", "--header", "p", "--count", "6"],
-        output: b"rows 6\nlate 0\nmatches 2\ntimeouts 0\n",
+        output: b"rows 6\nlate 0\nmatches 2\ntimeouts 0\ngreatest held 1\n",
         ..PLAIN
     },
     Case {

@@ -1,7 +1,7 @@
 ghost use Rattle.std.specs.Prelude.{◌<◌};
 
 use crate::statuses::{files_of, words_of};
-use cep_cli::{cep, number};
+use cep_cli::{NoGauge, cep, number};
 use cep_event::{ByteList, CallList, NoMemory};
 use cep_outside::{MemorySink, MemorySource};
 use std::test::Fail;
@@ -13,7 +13,7 @@ struct Row {
     output: &'static [u8],
 }
 
-const ROWS: [Row; 30] = [
+const ROWS: [Row; 34] = [
     Row {
         name: "relaxed",
         file: b"event A(); event B(); event C(); event D(); pattern begin(\"a\").of(A).followedBy(\"b\").of(B);",
@@ -177,6 +177,30 @@ const ROWS: [Row; 30] = [
         output: b"match,b=1 2 3,c=4\nmatch,b=2 3,c=4\n",
     },
     Row {
+        name: "a kept sum, first and last",
+        file: b"event B(p int); event C(); pattern begin(\"b\").of(B).oneOrMore().allowCombinations().followedBy(\"c\").of(C).where(sum(\"b\".p) == 8 && first(\"b\").p < last(\"b\").p);",
+        input: b"B,1,5\nB,2,1\nB,3,7\nC,4\n",
+        output: b"match,b=2 3,c=4\n",
+    },
+    Row {
+        name: "a kept maximum and a count",
+        file: b"event B(p int); event C(); pattern begin(\"b\").of(B).oneOrMore().allowCombinations().followedBy(\"c\").of(C).where(max(\"b\".p) == 5 && count(\"b\") == 2);",
+        input: b"B,1,5\nB,2,1\nB,3,7\nC,4\n",
+        output: b"match,b=1 2,c=4\n",
+    },
+    Row {
+        name: "kept texts",
+        file: b"event T(s text); pattern begin(\"a\").of(T).oneOrMore().allowCombinations().next(\"b\").of(T).where(s == first(\"a\").s && last(\"a\").s == \"y\");",
+        input: b"T,1,x\nT,2,y\nT,3,x\n",
+        output: b"match,a=1 2,b=3\n",
+    },
+    Row {
+        name: "a loop that asks of itself",
+        file: b"event A(v int); event E(); pattern begin(\"a\").of(A).where(count(\"a\") == 0 || v > max(\"a\".v)).oneOrMore().next(\"e\").of(E);",
+        input: b"A,1,5\nA,2,3\nA,3,6\nE,4\n",
+        output: b"match,a=1 3,e=4\nmatch,a=2 3,e=4\nmatch,a=3,e=4\n",
+    },
+    Row {
         name: "quoted fields and carriage returns",
         file: b"event T(s text, p int); pattern begin(\"a\").of(T).next(\"b\").of(T).where(s == last(\"a\").s && p > max(\"a\".p));",
         input: b"T,1,\"x,y\",5\r\nT,2,\"x,y\",6\r\nT,3,z,9\r\n",
@@ -213,6 +237,7 @@ fn is_met(rt: &HostRuntime, row: &Row, piece: usize) -> Result<bool, NoMemory>
         &mut input,
         &mut output,
         &mut notes,
+        &mut NoGauge,
     );
     Ok(number(&status) == 0 && output.taken() == row.output && notes.taken().is_empty())
 }

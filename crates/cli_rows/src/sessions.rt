@@ -31,14 +31,21 @@ fn printed(alloc: Global, line: &[u8]) -> Result<ByteList, NoMemory>
     Ok(text)
 }
 
-impl Handler for Printer {
-    ghost stands = { λ s m lines. m ≡ record { too_long = UnknownType; refusal = λ before line. if slice_index_or line 0 0 == 33 then Some UnknownType else None; caused = λ before line. line ++ 10 ∷ []; owed = λ lines. codes "end\n" } };
+impl Handler<(), u64> for Printer {
+    ghost stands = { λ s m lines. m ≡ record { too_long = UnknownType; refusal = λ before line. if slice_index_or line 0 0 == 33 then Some UnknownType else None; text = record { caused = λ before line. line ++ 10 ∷ []; owed = λ lines. codes "end\n" }; shown = record { caused = λ before line. []; owed = λ lines. [] } } };
+
+    ghost shown = { λ x. None };
 
     fn too_long(&self) -> RowCause {
         RowCause::UnknownType
     }
 
-    fn line<K: Sink>(&mut self, line: &Line, output: &mut K) -> Result<(), LineFault> {
+    fn line<K: Sink>(
+        &mut self,
+        line: &Line,
+        output: &mut K,
+        _shown: &mut (),
+    ) -> Result<(), LineFault> {
         if is_refused(line.as_slice()) {
             return Err(LineFault::Refused(RowCause::UnknownType));
         }
@@ -52,7 +59,7 @@ impl Handler for Printer {
         }
     }
 
-    fn end<K: Sink>(self, output: &mut K) -> Result<(), EndFault> {
+    fn end<K: Sink>(self, output: &mut K, _shown: &mut ()) -> Result<(), EndFault> {
         match write_all(output, b"end\n") {
             Ok(()) => Ok(()),
             Err(_) => Err(EndFault::Unwritten),
@@ -88,6 +95,7 @@ fn holds(alloc: Global, case: &Case, piece: usize) -> Result<bool, NoMemory>
         case.allowed,
         &mut input,
         &mut output,
+        &mut (),
     );
     let status = ending.status();
     tell(&mut notes, &status);
@@ -223,7 +231,14 @@ fn a_read_fails_in_the_middle(rt: HostRuntime) -> Result<(), Fail> {
     let bytes = ByteList::from_slice(alloc, b"a\nbc\nd")?;
     let mut input = MemorySource::new(bytes, 2, calls(alloc, 3)?);
     let mut output = MemorySink::new(alloc, 99, 99, CallList::new(alloc))?;
-    let ending = run(alloc, Printer { alloc }, 9, &mut input, &mut output);
+    let ending = run(
+        alloc,
+        Printer { alloc },
+        9,
+        &mut input,
+        &mut output,
+        &mut (),
+    );
     assert!(rt; ending == Ending::ReadFault);
     assert!(rt; output.taken() == b"a\n".as_slice());
     assert!(rt; input.left() == b"\nd".as_slice());
@@ -236,7 +251,14 @@ fn the_text_of_a_line_is_written_before_the_next_read(rt: HostRuntime) -> Result
     let bytes = ByteList::from_slice(alloc, b"a\nb\nc\n")?;
     let mut input = MemorySource::new(bytes, 1, CallList::new(alloc));
     let mut output = MemorySink::new(alloc, 99, 99, calls(alloc, 1)?)?;
-    let ending = run(alloc, Printer { alloc }, 9, &mut input, &mut output);
+    let ending = run(
+        alloc,
+        Printer { alloc },
+        9,
+        &mut input,
+        &mut output,
+        &mut (),
+    );
     assert!(rt; ending == Ending::WriteFault);
     assert!(rt; output.taken().is_empty());
     assert!(rt; input.left() == b"b\nc\n".as_slice());
@@ -250,7 +272,14 @@ fn a_long_line_is_refused_before_its_end(rt: HostRuntime) -> Result<(), Fail> {
     let bytes = ByteList::from_vec(long);
     let mut input = MemorySource::new(bytes, 7, CallList::new(alloc));
     let mut output = MemorySink::new(alloc, 9, 9, CallList::new(alloc))?;
-    let ending = run(alloc, Printer { alloc }, 9, &mut input, &mut output);
+    let ending = run(
+        alloc,
+        Printer { alloc },
+        9,
+        &mut input,
+        &mut output,
+        &mut (),
+    );
     let refused = Ending::BadRow {
         row: 1,
         cause: RowCause::UnknownType,

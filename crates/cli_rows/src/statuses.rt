@@ -1,6 +1,6 @@
 ghost use Rattle.std.specs.Prelude.{◌<◌};
 
-use cep_cli::{RowCause, Status, cep, number};
+use cep_cli::{Gauge, NoGauge, RowCause, Status, cep, number};
 use cep_event::{ByteList, CallList, NoMemory, Text};
 use cep_outside::{MemoryFiles, MemorySink, MemorySource, Named, NamedList};
 use std::alloc::{AllocError, Global};
@@ -289,7 +289,8 @@ const CASES: [Case; 23] = [
     },
 ];
 
-fn calls(alloc: Global, call: u64) -> Result<CallList, NoMemory> {
+/// The list of this call, empty where it is 0.
+pub fn calls(alloc: Global, call: u64) -> Result<CallList, NoMemory> {
     let mut list = CallList::new(alloc);
     if call > 0 {
         list.push(call)?;
@@ -331,25 +332,63 @@ pub fn holds_over(
 ) -> Result<bool, NoMemory>
     requires { 0 < piece }
 {
+    holds_failing(rt, case, input, piece, NO_FAILURE)
+}
+
+/// The calls of the output and of the notes that fail, and none where it is 0.
+#[derive(Clone, Copy)]
+pub struct Failing {
+    pub output: u64,
+    pub notes: u64,
+}
+
+const NO_FAILURE: Failing = Failing {
+    output: 0,
+    notes: 0,
+};
+
+/// The same where calls of the output or of the notes fail.
+pub fn holds_failing(
+    rt: &HostRuntime,
+    case: &Case,
+    input: ByteList,
+    piece: usize,
+    failing: Failing,
+) -> Result<bool, NoMemory>
+    requires { 0 < piece }
+{
+    let alloc = rt.alloc();
+    let mut input = MemorySource::new(input, piece, calls(alloc, case.unread)?);
+    let mut output = MemorySink::new(alloc, case.room, piece, calls(alloc, failing.output)?)?;
+    let mut notes = MemorySink::new(alloc, 100, 7, calls(alloc, failing.notes)?)?;
+    let status = status_over(rt, case, &mut input, &mut output, &mut notes)?;
+    Ok(status == case.status && output.taken() == case.output && notes.taken() == case.notes)
+}
+
+/// The number of the status with which the call ends over these.
+pub fn status_over(
+    rt: &HostRuntime,
+    case: &Case,
+    input: &mut MemorySource,
+    output: &mut MemorySink,
+    notes: &mut MemorySink,
+) -> Result<u8, NoMemory> {
+    gauged_over(rt, case, input, output, notes, &mut NoGauge)
+}
+
+/// The same with a gauge that is shown what is held.
+pub fn gauged_over<G: Gauge>(
+    rt: &HostRuntime,
+    case: &Case,
+    input: &mut MemorySource,
+    output: &mut MemorySink,
+    notes: &mut MemorySink,
+    gauge: &mut G,
+) -> Result<u8, NoMemory> {
     let alloc = rt.alloc();
     let words = words_of(alloc, case.words)?;
     let mut files = files_of(alloc, case.file)?;
-    let mut input = MemorySource::new(input, piece, calls(alloc, case.unread)?);
-    let mut output = MemorySink::new(alloc, case.room, piece, CallList::new(alloc))?;
-    let mut notes = MemorySink::new(alloc, 100, 7, CallList::new(alloc))?;
-    let status = cep(
-        alloc,
-        &words,
-        &mut files,
-        &mut input,
-        &mut output,
-        &mut notes,
-    );
-    Ok(
-        number(&status) == case.status
-            && output.taken() == case.output
-            && notes.taken() == case.notes,
-    )
+    Ok(number(&cep(alloc, &words, &mut files, input, output, notes, gauge)))
 }
 
 #[test]
@@ -383,6 +422,7 @@ pub fn status_of(
         &mut input,
         &mut output,
         &mut notes,
+        &mut NoGauge,
     ))
 }
 

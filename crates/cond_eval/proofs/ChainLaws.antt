@@ -26,19 +26,24 @@ module _ (types : List EventType) (event : Option Event) (list : List Taken) whe
   all-map [] = refl
   all-map (x ∷ xs) = ap (λ b. is_true (val x) && b) (all-map xs)
 
-  sum-map : (a : Answer) (terms : List Term) → fold add_part a (map (term_answer types event list) terms) ≡ fold (λ so_far term. add_part so_far (term.minus, val term.expr)) a terms
+  sum-map : (a : Answer) (terms : List Term)
+      → fold add_part a (map (term_answer types event list) terms) ≡ fold (λ so_far term. add_part so_far (term.minus, val term.expr)) a terms
   sum-map a [] = refl
   sum-map a (t ∷ terms) = sum-map (add_part a (t.minus, val t.expr)) terms
 
-  product-map : (a : Answer) (factors : List Factor) → fold multiply_part a (map (factor_answer types event list) factors) ≡ fold (λ so_far factor. multiply_part so_far (factor.how, val factor.expr)) a factors
+  product-map : (a : Answer) (factors : List Factor)
+      → fold multiply_part a (map (factor_answer types event list) factors)
+      ≡ fold (λ so_far factor. multiply_part so_far (factor.how, val factor.expr)) a factors
   product-map a [] = refl
   product-map a (f ∷ factors) = product-map (multiply_part a (f.how, val f.expr)) factors
 
   pub value-Any : (e : Expr) (parts slice : List Expr) → e ≡ Any parts → slice ≡ parts → truth (list_any (λ x. is_true (val x)) slice) ≡ val e
-  value-Any e parts slice is same = ap truth (ap (list_any (λ x. is_true (val x))) same ∙ sym (any-map parts)) ∙ sym (ap val is ∙ value_of-Any types event list parts)
+  value-Any e parts slice is same = ap truth (ap (list_any (λ x. is_true (val x))) same ∙ sym (any-map parts))
+      ∙ sym (ap val is ∙ value_of-Any types event list parts)
 
   pub value-All : (e : Expr) (parts slice : List Expr) → e ≡ All parts → slice ≡ parts → truth (list_all (λ x. is_true (val x)) slice) ≡ val e
-  value-All e parts slice is same = ap truth (ap (list_all (λ x. is_true (val x))) same ∙ sym (all-map parts)) ∙ sym (ap val is ∙ value_of-All types event list parts)
+  value-All e parts slice is same = ap truth (ap (list_all (λ x. is_true (val x))) same ∙ sym (all-map parts))
+      ∙ sym (ap val is ∙ value_of-All types event list parts)
 
   pub value-Add : (e : Expr) (terms slice : List Term) → e ≡ Add terms → slice ≡ terms → sum_of val slice ≡ val e
   value-Add e terms slice is same = ap (sum_of val) same ∙ sym (ap val is ∙ value_of-Add types event list terms ∙ sum-map (number (pos 0)) terms)

@@ -30,11 +30,13 @@ pub questions_of-Add : (terms : List Term) → questions_of (Add terms) ≡ flat
 questions_of-Add terms = term_questions-items (hidden-the_row-Term-2 terms) ∙ ap (flat_map (λ term. questions_of term.expr)) (items_hidden-the_row-Term-2 terms)
 
 pub questions_of-Mul : (factors : List Factor) → questions_of (Mul factors) ≡ flat_map (λ factor. questions_of factor.expr) factors
-questions_of-Mul factors = factor_questions-items (hidden-the_row-Factor-3 factors) ∙ ap (flat_map (λ factor. questions_of factor.expr)) (items_hidden-the_row-Factor-3 factors)
+questions_of-Mul factors = factor_questions-items (hidden-the_row-Factor-3 factors)
+    ∙ ap (flat_map (λ factor. questions_of factor.expr)) (items_hidden-the_row-Factor-3 factors)
 
 pub questions_of-Compare : (c : Cmp) (x y : Expr) → questions_of (Compare c x y) ≡ questions_of x ++ questions_of y
 unfolding hidden-the_row-Expr-1 denote.Hole.Carrier.hidden
-questions_of-Compare c x y = ap (λ qs. qs ++ (questions_of y ++ [])) (append-nil (questions_of x)) ∙ ap (λ qs. questions_of x ++ qs) (append-nil (questions_of y))
+questions_of-Compare c x y = ap (λ qs. qs ++ (questions_of y ++ [])) (append-nil (questions_of x))
+    ∙ ap (λ qs. questions_of x ++ qs) (append-nil (questions_of y))
 
 pub questions_of-Not : (x : Expr) → questions_of (Not x) ≡ questions_of x
 unfolding hidden-the_row-Expr-1 denote.Hole.Carrier.hidden
@@ -75,17 +77,25 @@ module _ (can : Question → Type 0) where
   pub can-All : (e : Expr) (parts slice : List Expr) → e ≡ AllOf parts → slice ≡ parts → All can (questions_of e) → All can (flat_map questions_of slice)
   can-All e parts slice is same can_all = subst CanAnswer (ap questions_of is ∙ part_questions-hidden parts ∙ ap (flat_map questions_of) (sym same)) can_all
 
-  pub can-Add : (e : Expr) (terms slice : List Term) → e ≡ Add terms → slice ≡ terms → All can (questions_of e) → All can (flat_map (λ term. questions_of term.expr) slice)
-  can-Add e terms slice is same can_all = subst CanAnswer (ap questions_of is ∙ questions_of-Add terms ∙ ap (flat_map (λ term. questions_of term.expr)) (sym same)) can_all
+  pub can-Add : (e : Expr) (terms slice : List Term) → e ≡ Add terms → slice ≡ terms → All can (questions_of e)
+      → All can (flat_map (λ term. questions_of term.expr) slice)
+  can-Add e terms slice is same can_all =
+      subst CanAnswer (ap questions_of is ∙ questions_of-Add terms ∙ ap (flat_map (λ term. questions_of term.expr)) (sym same)) can_all
 
-  pub can-Mul : (e : Expr) (factors slice : List Factor) → e ≡ Mul factors → slice ≡ factors → All can (questions_of e) → All can (flat_map (λ factor. questions_of factor.expr) slice)
-  can-Mul e factors slice is same can_all = subst CanAnswer (ap questions_of is ∙ questions_of-Mul factors ∙ ap (flat_map (λ factor. questions_of factor.expr)) (sym same)) can_all
+  pub can-Mul : (e : Expr) (factors slice : List Factor) → e ≡ Mul factors → slice ≡ factors → All can (questions_of e)
+      → All can (flat_map (λ factor. questions_of factor.expr) slice)
+  can-Mul e factors slice is same can_all =
+      subst CanAnswer (ap questions_of is ∙ questions_of-Mul factors ∙ ap (flat_map (λ factor. questions_of factor.expr)) (sym same)) can_all
 
   pub can-left : (e : Expr) (c : Cmp) (x y z : Expr) → e ≡ Compare c x y → z ≡ x → All can (questions_of e) → All can (questions_of z)
-  can-left e c x y z is same can_all = subst CanAnswer (ap questions_of (sym same)) (front (questions_of x) (questions_of y) (subst CanAnswer (ap questions_of is ∙ questions_of-Compare c x y) can_all))
+  can-left e c x y z is same can_all =
+      subst CanAnswer (ap questions_of (sym same))
+      (front (questions_of x) (questions_of y) (subst CanAnswer (ap questions_of is ∙ questions_of-Compare c x y) can_all))
 
   pub can-right : (e : Expr) (c : Cmp) (x y z : Expr) → e ≡ Compare c x y → z ≡ y → All can (questions_of e) → All can (questions_of z)
-  can-right e c x y z is same can_all = subst CanAnswer (ap questions_of (sym same)) (back (questions_of x) (questions_of y) (subst CanAnswer (ap questions_of is ∙ questions_of-Compare c x y) can_all))
+  can-right e c x y z is same can_all =
+      subst CanAnswer (ap questions_of (sym same))
+      (back (questions_of x) (questions_of y) (subst CanAnswer (ap questions_of is ∙ questions_of-Compare c x y) can_all))
 
   pub can-Not : (e x z : Expr) → e ≡ Not x → z ≡ x → All can (questions_of e) → All can (questions_of z)
   can-Not e x z is same can_all = subst CanAnswer (ap questions_of is ∙ questions_of-Not x ∙ ap questions_of (sym same)) can_all

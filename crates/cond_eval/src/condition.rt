@@ -13,7 +13,8 @@ use cep_plan::{Cond, Join, Matched, Part, Plan};
 
 fn part_holds<M: Matched>(plan: &Plan, part: &Part, event: &Event, taken: &M) -> bool
     requires { All (M.can_answer taken.now) (questions_of part.now.expr) }
-    ensures { (list : List Taken) → M.stands_for taken.now plan.now.types list → result ≡ is_true (value_of plan.now.types (Some event.now) list part.now.expr) }
+    ensures { (list : List Taken) → M.stands_for taken.now plan.now.types list
+        → result ≡ is_true (value_of plan.now.types (Some event.now) list part.now.expr) }
 {
     is_true(value(plan, &part.expr, Some(event), taken))
 }
@@ -21,7 +22,8 @@ fn part_holds<M: Matched>(plan: &Plan, part: &Part, event: &Event, taken: &M) ->
 /// Looks at the part only where it can change the answer.
 fn joined<M: Matched>(plan: &Plan, so_far: bool, part: &Part, event: &Event, taken: &M) -> bool
     requires { All (M.can_answer taken.now) (questions_of part.now.expr) }
-    ensures { (list : List Taken) → M.stands_for taken.now plan.now.types list → result ≡ joined part.now.join so_far (is_true (value_of plan.now.types (Some event.now) list part.now.expr)) }
+    ensures { (list : List Taken) → M.stands_for taken.now plan.now.types list
+        → result ≡ joined part.now.join so_far (is_true (value_of plan.now.types (Some event.now) list part.now.expr)) }
 {
     match part.join {
         Join::Both => so_far && part_holds(plan, part, event, taken),
@@ -37,7 +39,8 @@ fn rest_joined<M: Matched>(
     taken: &M,
 ) -> bool
     requires { All (M.can_answer taken.now) (flat_map (λ part. questions_of part.expr) rest.now) }
-    ensures { (list : List Taken) → M.stands_for taken.now plan.now.types list → result ≡ fold (λ so_far next. joined next.join so_far (is_true (value_of plan.now.types (Some event.now) list next.expr))) first rest.now }
+    ensures { (list : List Taken) → M.stands_for taken.now plan.now.types list
+        → result ≡ fold (λ so_far next. joined next.join so_far (is_true (value_of plan.now.types (Some event.now) list next.expr))) first rest.now }
 {
     let mut so_far = first;
     for part in rest {

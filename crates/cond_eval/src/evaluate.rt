@@ -23,7 +23,8 @@ fn count<'a, M: Matched>(taken: &'a M, stage: u16) -> Val<'a>
 
 fn aggregate<'a, M: Matched>(taken: &'a M, agg: Agg, stage: u16, field: u16) -> Val<'a>
     requires { M.can_answer taken.now (aggregate agg stage field) }
-    ensures { (types : List EventType) (list : List Taken) → M.stands_for taken.now types list → answer_seen result ≡ answer_to types list (aggregate agg stage field) }
+    ensures { (types : List EventType) (list : List Taken) → M.stands_for taken.now types list
+        → answer_seen result ≡ answer_to types list (aggregate agg stage field) }
 {
     match agg {
         Agg::Sum => taken.sum(stage, field),
@@ -57,7 +58,8 @@ fn multiply_part<'a>(so_far: Val<'a>, how: How, part: Val<'a>) -> Val<'a>
 #[cycle(value)]
 fn any_true<M: Matched>(plan: &Plan, parts: &[Expr], event: Option<&Event>, taken: &M) -> bool
     requires { All (M.can_answer taken.now) (flat_map questions_of parts.now) }
-    ensures { (list : List Taken) → M.stands_for taken.now plan.now.types list → result ≡ list_any (λ x. is_true (value_of plan.now.types (option_copied event.entry) list x)) parts.now }
+    ensures { (list : List Taken) → M.stands_for taken.now plan.now.types list
+        → result ≡ list_any (λ x. is_true (value_of plan.now.types (option_copied event.entry) list x)) parts.now }
 {
     for part in parts {
         if is_true(value(plan, part, event, taken)) {
@@ -70,7 +72,8 @@ fn any_true<M: Matched>(plan: &Plan, parts: &[Expr], event: Option<&Event>, take
 #[cycle(value)]
 fn all_true<M: Matched>(plan: &Plan, parts: &[Expr], event: Option<&Event>, taken: &M) -> bool
     requires { All (M.can_answer taken.now) (flat_map questions_of parts.now) }
-    ensures { (list : List Taken) → M.stands_for taken.now plan.now.types list → result ≡ list_all (λ x. is_true (value_of plan.now.types (option_copied event.entry) list x)) parts.now }
+    ensures { (list : List Taken) → M.stands_for taken.now plan.now.types list
+        → result ≡ list_all (λ x. is_true (value_of plan.now.types (option_copied event.entry) list x)) parts.now }
 {
     for part in parts {
         if !is_true(value(plan, part, event, taken)) {
@@ -88,7 +91,8 @@ fn sum<'a, M: Matched>(
     taken: &'a M,
 ) -> Val<'a>
     requires { All (M.can_answer taken.now) (flat_map (λ term. questions_of term.expr) terms.now) }
-    ensures { (list : List Taken) → M.stands_for taken.now plan.now.types list → answer_seen result ≡ sum_of (value_of plan.now.types (option_copied event.entry) list) terms.now }
+    ensures { (list : List Taken) → M.stands_for taken.now plan.now.types list
+        → answer_seen result ≡ sum_of (value_of plan.now.types (option_copied event.entry) list) terms.now }
 {
     let mut so_far = Val::Int(0);
     for term in terms {
@@ -105,7 +109,8 @@ fn product<'a, M: Matched>(
     taken: &'a M,
 ) -> Val<'a>
     requires { All (M.can_answer taken.now) (flat_map (λ factor. questions_of factor.expr) factors.now) }
-    ensures { (list : List Taken) → M.stands_for taken.now plan.now.types list → answer_seen result ≡ product_of (value_of plan.now.types (option_copied event.entry) list) factors.now }
+    ensures { (list : List Taken) → M.stands_for taken.now plan.now.types list
+        → answer_seen result ≡ product_of (value_of plan.now.types (option_copied event.entry) list) factors.now }
 {
     let mut so_far = Val::Int(1);
     for factor in factors {
@@ -123,7 +128,8 @@ pub fn value<'a, M: Matched>(
     taken: &'a M,
 ) -> Val<'a>
     requires { All (M.can_answer taken.now) (questions_of expr.now) }
-    ensures { (list : List Taken) → M.stands_for taken.now plan.now.types list → answer_seen result ≡ value_of plan.now.types (option_copied event.entry) list expr.now }
+    ensures { (list : List Taken) → M.stands_for taken.now plan.now.types list
+        → answer_seen result ≡ value_of plan.now.types (option_copied event.entry) list expr.now }
 {
     match expr {
         Expr::Int(number) => Val::Int(*number),

@@ -6,5 +6,3 @@
 mod conditions;
 #[cfg(test)]
 mod lists;
-#[cfg(test)]
-mod sums;

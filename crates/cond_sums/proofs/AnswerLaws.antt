@@ -23,11 +23,13 @@ in_head x y xs is = (0, omega arith, is)
 -- what one of the elements gives is among what all give
 contains-flat_map : {X Y : Type 0} (f : X → List Y) (xs : List X) (x : X) (y : Y) → Contains xs x → Contains (f x) y → Contains (flat_map f xs) y
 contains-flat_map f [] x y h g = absurd (omega (arith, h.1))
-contains-flat_map {X} {Y} f (z ∷ xs) x y (zero, lt, is) g = let In : X → Type 0 = λ w. Contains (f w) y in Contains-append_left (f z) (flat_map f xs) y (subst In (sym is) g)
+contains-flat_map {X} {Y} f (z ∷ xs) x y (zero, lt, is) g = let In : X → Type 0 = λ w. Contains (f w) y in
+    Contains-append_left (f z) (flat_map f xs) y (subst In (sym is) g)
 contains-flat_map f (z ∷ xs) x y (suc k, lt, is) g = Contains-append_right (f z) (flat_map f xs) y (contains-flat_map f xs x y (k, omega (arith, lt), is) g)
 
 -- a test that holds of one of the elements
-any-contains : {X Y : Type 0} (f : X → Y) (test : X → Bool) (xs : List X) (y : Y) → ((x : X) → f x ≡ y → test x ≡ true) → Contains (map f xs) y → list_any test xs ≡ true
+any-contains : {X Y : Type 0} (f : X → Y) (test : X → Bool) (xs : List X) (y : Y) → ((x : X) → f x ≡ y → test x ≡ true) → Contains (map f xs) y
+    → list_any test xs ≡ true
 any-contains f test [] y holds h = absurd (omega (arith, h.1))
 any-contains f test (x ∷ xs) y holds (zero, lt, is) = ap (λ b. b || list_any test xs) (holds x is)
 any-contains f test (x ∷ xs) y holds (suc k, lt, is) = ap (λ b. test x || b) (any-contains f test xs y holds (k, omega (arith, lt), is)) ∙ or_true (test x)
@@ -53,7 +55,8 @@ can-answer plan sums wanted (how_many stage) asked =
     (Contains-append_left (flat_map stage_of (questions_asked plan)) (range_with_len 0 (length plan.stages)) stage
     (contains-flat_map stage_of (questions_asked plan) (how_many stage) stage asked (in_head stage stage [] refl))))
 can-answer plan sums wanted (aggregate agg stage field) asked =
-    any-contains pair_kept (is_slot_of stage field) sums.slots (stage, field) (λ kept is. and_from _ _ (eq-eqb kept.stage stage (ap (λ p. p.0) is)) (eq-eqb kept.field field (ap (λ p. p.1) is)))
+    any-contains pair_kept (is_slot_of stage field) sums.slots (stage, field)
+    (λ kept is. and_from _ _ (eq-eqb kept.stage stage (ap (λ p. p.0) is)) (eq-eqb kept.field field (ap (λ p. p.1) is)))
     ((wanted.pairs_are (stage, field)).1
     (contains-flat_map pair_of (questions_asked plan) (aggregate agg stage field) (stage, field) asked (in_head (stage, field) (stage, field) [] refl)))
 
@@ -65,9 +68,12 @@ can-count plan sums wanted stage within =
     (contains-number (length plan.stages) stage within)))
 
 -- each condition of the plan may be asked of what keeps what the plan's conditions want
-pub can-ask : (plan : Plan) (sums : Summed) → IsWantedBy plan (wanted_in sums) → (cond : Cond) → Contains (conditions_in plan) cond → All (CanAnswer sums) (questions_in cond)
+pub can-ask : (plan : Plan) (sums : Summed) → IsWantedBy plan (wanted_in sums) → (cond : Cond) → Contains (conditions_in plan) cond
+    → All (CanAnswer sums) (questions_in cond)
 can-ask plan sums wanted cond stands =
-    All-weaker (Contains (questions_in cond)) (CanAnswer sums) (λ q asked. can-answer plan sums wanted q (contains-flat_map questions_in (conditions_in plan) cond q stands asked)) (questions_in cond) (All-contains_itself (questions_in cond))
+    All-weaker (Contains (questions_in cond)) (CanAnswer sums)
+    (λ q asked. can-answer plan sums wanted q (contains-flat_map questions_in (conditions_in plan) cond q stands asked)) (questions_in cond)
+    (All-contains_itself (questions_in cond))
 
 -- where the conditions of a plan stand
 pub stage-condition : (plan : Plan) (stage : Stage) → Contains plan.stages stage → Contains (conditions_in plan) stage.cond
@@ -77,7 +83,8 @@ stage-condition plan stage stands = Contains-append_left (flat_map conditions_of
 pub stage-until : (plan : Plan) (stage : Stage) (until : Cond) → Contains plan.stages stage → stage.until ≡ Some until → Contains (conditions_in plan) until
 stage-until plan stage until stands is = Contains-append_left (flat_map conditions_of plan.stages) (map (λ negation. negation.cond) plan.negations) until
     (contains-flat_map conditions_of plan.stages stage until stands
-    (Contains-append_right (stage.cond ∷ []) (option_to_list stage.until) until (let In : List Cond → Type 0 = λ conds. Contains conds until in subst In (sym (ap option_to_list is)) (in_head until until [] refl))))
+    (Contains-append_right (stage.cond ∷ []) (option_to_list stage.until) until
+    (let In : List Cond → Type 0 = λ conds. Contains conds until in subst In (sym (ap option_to_list is)) (in_head until until [] refl))))
 
 contains-map : {X Y : Type 0} (f : X → Y) (xs : List X) (x : X) → Contains xs x → Contains (map f xs) (f x)
 contains-map f [] x h = absurd (omega (arith, h.1))
@@ -85,7 +92,8 @@ contains-map f (y ∷ xs) x (zero, lt, is) = (0, omega arith, ap f is)
 contains-map f (y ∷ xs) x (suc k, lt, is) = Contains-append_right (f y ∷ []) (map f xs) (f x) (contains-map f xs x (k, omega (arith, lt), is))
 
 pub negation-condition : (plan : Plan) (negation : Negation) → Contains plan.negations negation → Contains (conditions_in plan) negation.cond
-negation-condition plan negation stands = Contains-append_right (flat_map conditions_of plan.stages) (map (λ negation. negation.cond) plan.negations) negation.cond
+negation-condition plan negation stands =
+    Contains-append_right (flat_map conditions_of plan.stages) (map (λ negation. negation.cond) plan.negations) negation.cond
     (contains-map (λ (negation : Negation). negation.cond) plan.negations negation stands)
 
 -- one that was found at its place

@@ -33,7 +33,8 @@ range-more a (suc n) =
     ap (λ later. a ∷ later) (range-more (a + 1) n) ∙ (λ i. a ∷ (range_with_len (a + 1) n ++ same i ∷ []))
 
 -- what was there before and the numbers so far, and then the next number
-pub numbers-pushed : (before so_far pushed : List ℕ) (n : ℕ) → so_far ≡ before ++ range_with_len 0 n → pushed ≡ so_far ++ n ∷ [] → pushed ≡ before ++ range_with_len 0 (n + 1)
+pub numbers-pushed : (before so_far pushed : List ℕ) (n : ℕ) → so_far ≡ before ++ range_with_len 0 n → pushed ≡ so_far ++ n ∷ []
+    → pushed ≡ before ++ range_with_len 0 (n + 1)
 numbers-pushed before so_far pushed n is next =
     let same : n ≡ 0 + n = omega arith in
     let one_more : suc n ≡ n + 1 = omega arith in

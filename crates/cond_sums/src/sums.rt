@@ -152,7 +152,8 @@ fn count_for(counts: &[Count], stage: u16) -> u32
 
 fn slot_for(slots: &[Slot], stage: u16, field: u16) -> &Slot
     requires { list_any (is_slot_of stage field) (map shown slots.now) ≡ true }
-    ensures { (types : List EventType) (list : List Taken) → All (λ kept. kept ≡ kept_of types list kept.stage kept.field) (map shown slots.now) → shown result.now ≡ kept_of types list stage field }
+    ensures { (types : List EventType) (list : List Taken) → All (λ kept. kept ≡ kept_of types list kept.stage kept.field) (map shown slots.now)
+        → shown result.now ≡ kept_of types list stage field }
 {
     for slot in slots {
         if slot.stage == stage && slot.field == field {
@@ -184,7 +185,8 @@ impl Sums {
         requires { self.now.taken < 2 ^ 32 - 1 }
         ensures same { IfOk result (λ sums. sums ≡ summed_after plan.now.types stage event.now self.now) }
         ensures asked { IfOk result (λ sums. wanted_in sums ≡ wanted_in self.now) }
-        ensures stands { (list : List Taken) (position : ℕ) → StandsFor self.now plan.now.types list → IfOk result (λ sums. StandsFor sums plan.now.types (list ++ record { stage = stage; position = position; event = event.now } ∷ [])) }
+        ensures stands { (list : List Taken) (position : ℕ) → StandsFor self.now plan.now.types list
+            → IfOk result (λ sums. StandsFor sums plan.now.types (list ++ record { stage = stage; position = position; event = event.now } ∷ [])) }
         ensures free { self.now.slots ≡ [] → length self.now.counts ≤ 4 → IsOk result }
     {
         let alloc = *self.slots.allocator();

@@ -1,12 +1,12 @@
 -- One mark, one record and the end, from what arrives to what is told.
-use Rattle.std.proofs.Common.{◌≡◌, ◌≤◌, refl, sym, ◌∙◌, ap, subst, ℕ, length, Bool, true, false, List, [], ◌∷◌, ◌++◌, map, append_assoc, append-nil, length-append, ◌+◌, arith, Option, Some, None}
+use Rattle.std.proofs.Common.{◌≡◌, ◌≤◌, refl, sym, ◌∙◌, ap, subst, ℕ, length, Bool, true, false, List, [], ◌∷◌, ◌++◌, map, append_assoc, append-nil, length-append, ◌+◌, arith, Option, None}
 use Rattle.std.specs.Prelude.{OnOk, ℤ, Result, Ok, Err, if◌then◌else◌}
 use Rattle.cep_event.specs.declared.event.Event.{Event}
 use Rattle.cep_event.specs.declared.record.LineRecord.{LineRecord}
 use Rattle.cep_event.specs.declared.record.LineRecord.TheVariants.{Blank, Mark, Row}
 use Rattle.cep_event.specs.declared.record.Moment.TheVariants.{At, End}
 use Rattle.cep_plan.specs.declared.plan.Plan.{Plan}
-use Rattle.cep_plan.specs.EventTime.{Arrival, arrived, marked, rises, released, marks_behind, arrivals_of, ticks_of, ticks_of_mark, ticks_of_end, all_ticks, ticks_after}
+use Rattle.cep_plan.specs.EventTime.{Arrival, arrived, marked, rises, released, marks_behind, arrivals_of, ticks_of, ticks_of_mark, ticks_of_end, ticks_after}
 use Rattle.cep_plan.specs.Tick.{Tick, event_tick, mark_tick}
 use Rattle.cep_engine.specs.Standing.{kept_at}
 use Rattle.cep_engine.specs.State.{State, StandsFor}
@@ -20,7 +20,7 @@ use Rattle.event_pipeline.specs.Ticks.{HasTaken, Takes, HasMet, Meets, HasGone, 
 use Rattle.event_pipeline.proofs.TellLaws.{told-then, cut-later, cut-more, tells-then}
 use Rattle.event_pipeline.specs.declared.pipeline.Pipeline.{Pipeline}
 use Rattle.event_pipeline.specs.Handled.{HasHandled, Handles}
-use Rattle.event_pipeline.specs.Running.{IsReady, IsRunning, taken_and_waiting}
+use Rattle.event_pipeline.specs.Running.{IsRunning, taken_and_waiting}
 use Rattle.event_pipeline.proofs.RunningLaws.{running-begun, nothing-taken}
 use Rattle.event_pipeline.proofs.TickLaws.{taken-nothing, takes-then, takes-cut, added-more, ticks_after-one, told_more-append, told_more-one}
 
@@ -39,10 +39,11 @@ begun lag plan order engine is same stands empty few last none fresh = record {
 -- ---- a mark
 
 -- the ticks of one mark behind arrivals
-mark_ticks : (arrivals : List Arrival) (time : ℤ) (b : Bool) → rises arrivals time ≡ b → (if b then ticks_of_mark arrivals (At time) else []) ≡ ticks_after arrivals (marked time ∷ [])
+pub mark_ticks : (arrivals : List Arrival) (time : ℤ) (b : Bool) → rises arrivals time ≡ b
+    → (if b then ticks_of_mark arrivals (At time) else []) ≡ ticks_after arrivals (marked time ∷ [])
 mark_ticks arrivals time b is = ap (λ c. if c then ticks_of_mark arrivals (At time) else []) (sym is) ∙ sym (ticks_after-one arrivals time)
 
-raised_ticks : (arrivals : List Arrival) (time : ℤ) (o after : OrderState) → rises arrivals time ≡ true → HandsOut o (released arrivals (At time)) after
+pub raised_ticks : (arrivals : List Arrival) (time : ℤ) (o after : OrderState) → rises arrivals time ≡ true → HandsOut o (released arrivals (At time)) after
     → map event_tick (ready o) ++ mark_tick (At time) ∷ [] ≡ ticks_after arrivals (marked time ∷ [])
 raised_ticks arrivals time o after up hands = ap (λ l. map event_tick l ++ mark_tick (At time) ∷ []) hands.events_ready ∙ mark_ticks arrivals time true up
 
@@ -64,13 +65,15 @@ module _ {S : Type 0} (tells : S → S → Told → Type 0) (plan : Plan) (lag :
 module _ {S : Type 0} (tells : S → S → Told → Type 0) (stops : TellFault → S → S → Told → Type 0) (plan : Plan) where
   module _ (lag : Option ℕ) (arrivals : List Arrival) (ticks : List Tick) (time : ℤ) (o : OrderState) (up : rises arrivals time ≡ true) (hands : HandsOut o (released arrivals (At time)) (order_of lag (arrivals ++ marked time ∷ []))) where
     -- a mark that rises: its events were taken, and its own tick was, or telling stopped at it
-    pub raised : (p : OrderState) (mid now : State) (a m b : S) (r : Result Unit TellFault) → p ≡ settled o → HasTaken tells plan ticks (map event_tick (ready o)) mid a m
+    pub raised : {T : Type 0} (p : OrderState) (mid now : State) (a m b : S) (r : Result T TellFault) → p ≡ settled o
+        → HasTaken tells plan ticks (map event_tick (ready o)) mid a m
         → Takes tells stops plan (ticks ++ map event_tick (ready o)) (mark_tick (At time) ∷ []) now m b r → Meets tells stops plan lag arrivals (marked time ∷ []) ticks p now a b r
-    raised p mid now a m b r rest events mark =
+    raised {T = T} p mid now a m b r rest events mark =
         whole r (subst (λ l. Takes tells stops plan ticks l now a b r) (raised_ticks arrivals time o (order_of lag (arrivals ++ marked time ∷ [])) up hands)
         (takes-then tells stops plan ticks (map event_tick (ready o)) (mark_tick (At time) ∷ []) mid now a m b r events mark))
       where
-        whole : (q : Result Unit TellFault) → Takes tells stops plan ticks (ticks_after arrivals (marked time ∷ [])) now a b q → Meets tells stops plan lag arrivals (marked time ∷ []) ticks p now a b q
+        whole : (q : Result T TellFault) → Takes tells stops plan ticks (ticks_after arrivals (marked time ∷ [])) now a b q
+            → Meets tells stops plan lag arrivals (marked time ∷ []) ticks p now a b q
         whole (Ok done) taken = record { order_is = rest ∙ hands.then_settled; taken = taken }
         whole (Err fault) stopped = stopped
 
@@ -99,7 +102,8 @@ module _ {S : Type 0} (tells : S → S → Told → Type 0) (stops : TellFault �
         ap (map item_told) (sym (added-more plan (ticks_of lag records) (ticks_after (arrivals_of lag records) (marked time ∷ [])))
         ∙ ap (added_items plan (ticks_of lag records)) (ap (λ l. ticks_of lag records ++ l) (ticks_after-one (arrivals_of lag records) time) ∙ sym (ticks_of-mark lag records time)))
 
-    pub gone-mark : (time : ℤ) (o : OrderState) (now : State) (a b : S) (r : Result Unit TellFault) → Meets tells stops plan lag (arrivals_of lag records) (marked time ∷ []) (ticks_of lag records) o now a b r
+    pub gone-mark : {T : Type 0} (time : ℤ) (o : OrderState) (now : State) (a b : S) (r : Result T TellFault)
+        → Meets tells stops plan lag (arrivals_of lag records) (marked time ∷ []) (ticks_of lag records) o now a b r
         → Goes tells stops plan lag records (Mark time) o now a b r
     gone-mark time o now a b (Ok done) met = record {
       order_is = met.order_is ∙ ap (order_of lag) (sym (arrivals_of-mark lag records time));
@@ -120,7 +124,8 @@ module _ {S : Type 0} (tells : S → S → Told → Type 0) (stops : TellFault �
           ap (λ l. told_late (arrivals_of lag records) event ++ map item_told l)
           (sym (added-more plan (ticks_of lag records) row_ticks) ∙ ap (added_items plan (ticks_of lag records)) (sym (ticks_of-row lag records event)))
 
-      pub gone-row : (o : OrderState) (now : State) (a m b : S) (r : Result Unit TellFault) → AreTold tells a m (told_late (arrivals_of lag records) event)
+      pub gone-row : {T : Type 0} (o : OrderState) (now : State) (a m b : S) (r : Result T TellFault)
+          → AreTold tells a m (told_late (arrivals_of lag records) event)
           → Meets tells stops plan lag (arrivals_of lag records ++ arrived event ∷ []) behind (ticks_of lag records) o now m b r → Goes tells stops plan lag records (Row event) o now a b r
       gone-row o now a m b (Ok done) late met = record {
         order_is = met.order_is ∙ ap (order_of lag) (append_assoc (arrivals_of lag records) (arrived event ∷ []) behind ∙ sym (arrivals_of-row lag records event));
@@ -162,13 +167,15 @@ module _ {S : Type 0} (tells : S → S → Told → Type 0) (stops : TellFault �
 -- the same, where what the mark's tick did is said of another name of the plan
 module _ {S : Type 0} (tells : Plan → S → S → Told → Type 0) (stops : Plan → TellFault → S → S → Told → Type 0) (shown plan : Plan) (same : shown ≡ plan) where
   module _ (lag : Option ℕ) (arrivals : List Arrival) (ticks : List Tick) (time : ℤ) (o : OrderState) (up : rises arrivals time ≡ true) (hands : HandsOut o (released arrivals (At time)) (order_of lag (arrivals ++ marked time ∷ []))) where
-    pub raised-at : (p : OrderState) (mid now : State) (a m b : S) (r : Result Unit TellFault) → p ≡ settled o → HasTaken (tells plan) plan ticks (map event_tick (ready o)) mid a m
+    pub raised-at : {T : Type 0} (p : OrderState) (mid now : State) (a m b : S) (r : Result T TellFault) → p ≡ settled o
+        → HasTaken (tells plan) plan ticks (map event_tick (ready o)) mid a m
         → Takes (tells shown) (stops shown) shown (ticks ++ map event_tick (ready o)) (mark_tick (At time) ∷ []) now m b r → Meets (tells plan) (stops plan) plan lag arrivals (marked time ∷ []) ticks p now a b r
     raised-at p mid now a m b r rest events mark =
         raised (tells plan) (stops plan) plan lag arrivals ticks time o up hands p mid now a m b r rest events
         (subst (λ q. Takes (tells q) (stops q) q (ticks ++ map event_tick (ready o)) (mark_tick (At time) ∷ []) now m b r) same mark)
 
-  pub row-at : (lag : Option ℕ) (records : List LineRecord) (event : Event) (o : OrderState) (now : State) (a m b : S) (r : Result Unit TellFault) → AreTold (tells plan) a m (told_late (arrivals_of lag records) event)
+  pub row-at : {T : Type 0} (lag : Option ℕ) (records : List LineRecord) (event : Event) (o : OrderState) (now : State) (a m b : S) (r : Result T TellFault)
+      → AreTold (tells plan) a m (told_late (arrivals_of lag records) event)
       → Meets (tells shown) (stops shown) shown lag (arrivals_of lag records ++ arrived event ∷ []) (marks_behind lag (event_times (arrivals_of lag records)) event.ts) (ticks_of lag records) o now m b r
       → Goes (tells plan) (stops plan) plan lag records (Row event) o now a b r
   row-at lag records event o now a m b r late met =
@@ -185,7 +192,8 @@ module _ {S : Type 0} (tells : Plan → S → S → Told → Type 0) (stops : Pl
 -- ---- a pipeline
 
 -- a record was taken
-pub handles : {S : Type 0} (tells : Plan → S → S → Told → Type 0) (stops : Plan → TellFault → S → S → Told → Type 0) (lag : Option ℕ) (plan : Plan) (records : List LineRecord) (next : LineRecord) (p q : Pipeline) (a b : S) (r : Result Unit TellFault)
+pub handles : {S T : Type 0} (tells : Plan → S → S → Told → Type 0) (stops : Plan → TellFault → S → S → Told → Type 0) (lag : Option ℕ) (plan : Plan)
+    (records : List LineRecord) (next : LineRecord) (p q : Pipeline) (a b : S) (r : Result T TellFault)
     → HasHandled lag plan records p → q.engine.plan ≡ p.engine.plan → OnOk r (IsRunning q.order q.engine)
     → OnOk r (taken_and_waiting q.order.waiting q.engine ≤ taken_and_waiting p.order.waiting p.engine + 1)
     → Goes (tells p.engine.plan) (stops p.engine.plan) p.engine.plan lag records next q.order q.engine a b r → Handles (tells plan) (stops plan) lag plan records next q a b r

@@ -63,6 +63,15 @@ module _ {S : Type 0} (tells : S → S → Told → Type 0) (stops : TellFault �
   tells-then a m b xs ys (Ok done) told more = told-then tells a m b xs ys told more
   tells-then a m b xs ys (Err fault) told more = cut-later fault a m b xs ys told more
 
+  -- they stopped, whatever would have been answered
+  pub tells-err : {T : Type 0} (a b : S) (all : List Told) (fault : TellFault) (r : Result T TellFault) → StopsAmong tells stops fault a b all → r ≡ Err fault
+      → Tells tells stops a b all r
+  tells-err a b all fault r stopped is = subst (Tells tells stops a b all) (sym is) stopped
+
+  -- memory was wanted before all of them
+  pub told-none : {T : Type 0} (a : S) (all : List Told) (r : Result T TellFault) → r ≡ Err NoMemory → Tells tells stops a a all r
+  told-none a all r is = tells-err a a all NoMemory r (cut-first a all) is
+
 -- ---- items told one after another
 
 pub items-append : (xs ys : List Item) → map item_told (xs ++ ys) ≡ map item_told xs ++ map item_told ys

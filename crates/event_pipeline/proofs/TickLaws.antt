@@ -62,7 +62,8 @@ pub taken-nothing : {S : Type 0} (tells : S → S → Told → Type 0) (plan : P
 taken-nothing tells plan ticks now a stands = record { stands = subst (λ l. StandsFor l now) (sym (append-nil ticks)) stands; told = refl }
 
 module _ {S : Type 0} (tells : S → S → Told → Type 0) (stops : TellFault → S → S → Told → Type 0) (plan : Plan) (before xs ys : List Tick) where
-  pub takes-then : (mid now : State) (a m b : S) (r : Result Unit TellFault) → HasTaken tells plan before xs mid a m → Takes tells stops plan (before ++ xs) ys now m b r → Takes tells stops plan before (xs ++ ys) now a b r
+  pub takes-then : {T : Type 0} (mid now : State) (a m b : S) (r : Result T TellFault) → HasTaken tells plan before xs mid a m
+      → Takes tells stops plan (before ++ xs) ys now m b r → Takes tells stops plan before (xs ++ ys) now a b r
   takes-then mid now a m b (Ok done) x y = record {
     stands = subst (λ l. StandsFor l now) (append_assoc before xs ys) y.stands;
     told = subst (AreTold tells a b) (sym (told_more-append plan before xs ys)) (told-then tells a m b (told_more plan before xs) (told_more plan (before ++ xs) ys) x.told y.told);
@@ -80,26 +81,31 @@ pub same-fault : {X : Type 0} (x y : TellFault) → ◌≡◌ {A = Result X Tell
 same-fault x y is = cc
 
 -- its items were told, or telling stopped among them
-pub takes-one : {S : Type 0} (tells : Plan → S → S → Told → Type 0) (stops : Plan → TellFault → S → S → Told → Type 0) (shown plan : Plan) (ticks : List Tick) (tick : Tick) (now : State) (a b : S) (items : List Item) (r : Result Unit TellFault)
+pub takes-one : {S T : Type 0} (tells : Plan → S → S → Told → Type 0) (stops : Plan → TellFault → S → S → Told → Type 0) (shown plan : Plan)
+    (ticks : List Tick) (tick : Tick) (now : State) (a b : S) (items : List Item) (r : Result T TellFault)
     → shown ≡ plan → StandsFor (ticks ++ tick ∷ []) now → items ≡ kept_at plan ticks tick → Tells (tells shown) (stops shown) a b (map item_told items) r → Takes (tells plan) (stops plan) plan ticks (tick ∷ []) now a b r
-takes-one tells stops shown plan ticks tick now a b items r same stands is told =
+takes-one {T = T} tells stops shown plan ticks tick now a b items r same stands is told =
     whole r (subst (λ l. Tells (tells plan) (stops plan) a b l r) (ap (map item_told) is ∙ sym (told_more-one plan ticks tick)) (subst (λ p. Tells (tells p) (stops p) a b (map item_told items) r) same told))
   where
-    whole : (q : Result Unit TellFault) → Tells (tells plan) (stops plan) a b (told_more plan ticks (tick ∷ [])) q → Takes (tells plan) (stops plan) plan ticks (tick ∷ []) now a b q
+    whole : (q : Result T TellFault) → Tells (tells plan) (stops plan) a b (told_more plan ticks (tick ∷ [])) q
+        → Takes (tells plan) (stops plan) plan ticks (tick ∷ []) now a b q
     whole (Ok done) h = record { stands = stands; told = h }
     whole (Err fault) h = h
 
 -- memory was wanted before it
-pub takes-none : {S : Type 0} (tells : S → S → Told → Type 0) (stops : TellFault → S → S → Told → Type 0) (plan : Plan) (ticks more : List Tick) (now : State) (a : S) (r : Result Unit TellFault) → r ≡ Err NoMemory → Takes tells stops plan ticks more now a a r
+pub takes-none : {S T : Type 0} (tells : S → S → Told → Type 0) (stops : TellFault → S → S → Told → Type 0) (plan : Plan) (ticks more : List Tick)
+    (now : State) (a : S) (r : Result T TellFault) → r ≡ Err NoMemory → Takes tells stops plan ticks more now a a r
 takes-none tells stops plan ticks more now a r is = subst (Takes tells stops plan ticks more now a a) (sym is) (cut-first tells stops a (told_more plan ticks more))
 
-map-split : (handed rest : List Event) (event : Event) → map event_tick (handed ++ event ∷ rest) ≡ (map event_tick handed ++ event_tick event ∷ []) ++ map event_tick rest
+pub map-split : (handed rest : List Event) (event : Event) → map event_tick (handed ++ event ∷ rest) ≡
+    (map event_tick handed ++ event_tick event ∷ []) ++ map event_tick rest
 map-split [] rest event = refl
 map-split (x ∷ handed) rest event = ap (λ l. event_tick x ∷ l) (map-split handed rest event)
 
 module _ {S : Type 0} (tells : Plan → S → S → Told → Type 0) (stops : Plan → TellFault → S → S → Told → Type 0) (shown plan : Plan) (same : shown ≡ plan) (ticks : List Tick) where
   -- one tick more behind some
-  pub takes-next : (xs ys : List Tick) (mid now : State) (a m b : S) (r : Result Unit TellFault) → HasTaken (tells plan) plan ticks xs mid a m → Takes (tells shown) (stops shown) shown (ticks ++ xs) ys now m b r
+  pub takes-next : {T : Type 0} (xs ys : List Tick) (mid now : State) (a m b : S) (r : Result T TellFault) → HasTaken (tells plan) plan ticks xs mid a m
+      → Takes (tells shown) (stops shown) shown (ticks ++ xs) ys now m b r
       → Takes (tells plan) (stops plan) plan ticks (xs ++ ys) now a b r
   takes-next xs ys mid now a m b r x y =
       takes-then (tells plan) (stops plan) plan ticks xs ys mid now a m b r x (subst (λ p. Takes (tells p) (stops p) p (ticks ++ xs) ys now m b r) same y)
@@ -111,7 +117,7 @@ module _ {S : Type 0} (tells : Plan → S → S → Told → Type 0) (stops : Pl
   ready-cut handed rest whole event mid now a m b fault is x y =
       subst (λ l. StopsAmong (tells plan) (stops plan) fault a b (told_more plan ticks l)) (sym (ap (map event_tick) is ∙ map-split handed rest event))
       (takes-cut (tells plan) (stops plan) plan ticks (map event_tick handed ++ event_tick event ∷ []) (map event_tick rest) a b fault
-      (takes-next (map event_tick handed) (event_tick event ∷ []) mid now a m b (Err fault) x y))
+      (takes-next {T = Unit} (map event_tick handed) (event_tick event ∷ []) mid now a m b (Err fault) x y))
 
 -- all events that were ready were taken
 pub ready-all : {S : Type 0} (tells : S → S → Told → Type 0) (plan : Plan) (ticks : List Tick) (handed rest whole : List Event) (now : State) (a b : S) → whole ≡ handed ++ rest → rest ≡ [] → HasTaken tells plan ticks (map event_tick handed) now a b

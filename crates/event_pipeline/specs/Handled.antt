@@ -1,5 +1,5 @@
 -- The records that a pipeline has handled.
-use Rattle.std.specs.Prelude.{◌≡◌, ◌≤◌, ◌<◌, ℕ, List, [], ◌∷◌, ◌++◌, length, Option, Result, Ok, Err}
+use Rattle.std.specs.Prelude.{◌≡◌, ◌≤◌, ℕ, List, [], ◌∷◌, ◌++◌, length, Option, Result, Ok, Err}
 use Rattle.cep_event.specs.declared.record.LineRecord.{LineRecord}
 use Rattle.cep_plan.specs.declared.plan.Plan.{Plan}
 use Rattle.cep_plan.specs.EventTime.{arrivals_of, ticks_of}
@@ -20,6 +20,8 @@ pub record HasHandled (lag : Option ℕ) (plan : Plan) (records : List LineRecor
   pub within : taken_and_waiting pipeline.order.waiting pipeline.engine ≤ length records
 
 -- one record more was handled and what it makes known was told, or telling it stopped
-abbrev pub Handles : {S : Type 0} → (S → S → Told → Type 0) → (TellFault → S → S → Told → Type 0) → Option ℕ → Plan → List LineRecord → LineRecord → Pipeline → S → S → Result Unit TellFault → Type 0
+abbrev pub Handles : {S T : Type 0} → (S → S → Told → Type 0) → (TellFault → S → S → Told → Type 0)
+    → Option ℕ → Plan → List LineRecord → LineRecord → Pipeline
+    → S → S → Result T TellFault → Type 0
 Handles tells stops lag plan records next now a b (Ok done) = HasHandled lag plan (records ++ next ∷ []) now × AreTold tells a b (told_of lag plan records next)
 Handles tells stops lag plan records next now a b (Err fault) = StopsAmong tells stops fault a b (told_of lag plan records next)

@@ -3,3 +3,4 @@ pub mod Telling
 pub mod Running
 pub mod Ticks
 pub mod Handled
+pub mod Shown

@@ -28,6 +28,6 @@ pub record StopsAmong {S : Type 0} (tells : S → S → Told → Type 0) (stops 
   pub stopped : StopsBefore stops fault at b back
 
 -- they were told all of these, or stopped among them
-abbrev pub Tells : {S : Type 0} → (S → S → Told → Type 0) → (TellFault → S → S → Told → Type 0) → S → S → List Told → Result Unit TellFault → Type 0
+abbrev pub Tells : {S T : Type 0} → (S → S → Told → Type 0) → (TellFault → S → S → Told → Type 0) → S → S → List Told → Result T TellFault → Type 0
 Tells tells stops a b all (Ok done) = AreTold tells a b all
 Tells tells stops a b all (Err fault) = StopsAmong tells stops fault a b all

@@ -33,7 +33,9 @@ pub record HasTaken {S : Type 0} (tells : S → S → Told → Type 0) (plan : P
   pub told : AreTold tells a b (told_more plan before more)
 
 -- it did, or telling stopped among them
-abbrev pub Takes : {S : Type 0} → (S → S → Told → Type 0) → (TellFault → S → S → Told → Type 0) → Plan → List Tick → List Tick → State → S → S → Result Unit TellFault → Type 0
+abbrev pub Takes : {S T : Type 0} → (S → S → Told → Type 0) → (TellFault → S → S → Told → Type 0)
+    → Plan → List Tick → List Tick → State → S → S
+    → Result T TellFault → Type 0
 Takes tells stops plan before more now a b (Ok done) = HasTaken tells plan before more now a b
 Takes tells stops plan before more now a b (Err fault) = StopsAmong tells stops fault a b (told_more plan before more)
 
@@ -42,7 +44,9 @@ pub record HasMet {S : Type 0} (tells : S → S → Told → Type 0) (plan : Pla
   pub order_is : order ≡ order_of lag (before ++ more)
   pub taken : HasTaken tells plan ticks (ticks_after before more) now a b
 
-abbrev pub Meets : {S : Type 0} → (S → S → Told → Type 0) → (TellFault → S → S → Told → Type 0) → Plan → Option ℕ → List Arrival → List Arrival → List Tick → OrderState → State → S → S → Result Unit TellFault → Type 0
+abbrev pub Meets : {S T : Type 0} → (S → S → Told → Type 0) → (TellFault → S → S → Told → Type 0)
+    → Plan → Option ℕ → List Arrival → List Arrival → List Tick
+    → OrderState → State → S → S → Result T TellFault → Type 0
 Meets tells stops plan lag before more ticks order now a b (Ok done) = HasMet tells plan lag before more ticks order now a b
 Meets tells stops plan lag before more ticks order now a b (Err fault) = StopsAmong tells stops fault a b (told_more plan ticks (ticks_after before more))
 
@@ -52,6 +56,8 @@ pub record HasGone {S : Type 0} (tells : S → S → Told → Type 0) (plan : Pl
   pub stands : StandsFor (ticks_of lag (records ++ next ∷ [])) now
   pub told : AreTold tells a b (told_of lag plan records next)
 
-abbrev pub Goes : {S : Type 0} → (S → S → Told → Type 0) → (TellFault → S → S → Told → Type 0) → Plan → Option ℕ → List LineRecord → LineRecord → OrderState → State → S → S → Result Unit TellFault → Type 0
+abbrev pub Goes : {S T : Type 0} → (S → S → Told → Type 0) → (TellFault → S → S → Told → Type 0)
+    → Plan → Option ℕ → List LineRecord → LineRecord → OrderState
+    → State → S → S → Result T TellFault → Type 0
 Goes tells stops plan lag records next order now a b (Ok done) = HasGone tells plan lag records next order now a b
 Goes tells stops plan lag records next order now a b (Err fault) = StopsAmong tells stops fault a b (told_of lag plan records next)

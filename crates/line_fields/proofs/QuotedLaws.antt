@@ -101,11 +101,13 @@ opens piece field b quote h =
     let same = eqb-true b 34 quote in
     ([], rw (same, h.0) refl, λ fields rest. rw (same, h.1) refl)
 
-begins : (piece field : List ℕ) (b : ℕ) → (b == 44) ≡ false → (b == 34) ≡ false → ((b == 13) || (b == 10)) ≡ false → Stands StartField piece field → Grows StartField InField piece field b
+begins : (piece field : List ℕ) (b : ℕ) → (b == 44) ≡ false → (b == 34) ≡ false → ((b == 13) || (b == 10)) ≡ false → Stands StartField piece field
+    → Grows StartField InField piece field b
 unfolding next_record
 begins piece field b comma quote end h = (b ∷ [], (rw h.0 refl, rw h.0 quote), λ fields rest. rw (quote, comma, end, h.1) refl)
 
-goes_on : (piece field : List ℕ) (b : ℕ) → (b == 44) ≡ false → ((b == 34) || (b == 13) || (b == 10)) ≡ false → Stands InField piece field → Grows InField InField piece field b
+goes_on : (piece field : List ℕ) (b : ℕ) → (b == 44) ≡ false → ((b == 34) || (b == 13) || (b == 10)) ≡ false → Stands InField piece field
+    → Grows InField InField piece field b
 unfolding next_record
 goes_on piece field b comma other h =
     let parts = or_parts ((b == 34) || (b == 13)) (b == 10) other in
@@ -165,7 +167,8 @@ unfolding pieces
 reads-start line = record { piece = []; field = []; cut = refl; stands = (refl, refl); same = refl }
 
 -- a comma ends the piece at hand
-pub reads-comma : (line places : List ℕ) (place : ℕ) (state next : State) → place < length line → next ≡ StartField → Some next ≡ next_state state (get_or line place 0)
+pub reads-comma : (line places : List ℕ) (place : ℕ) (state next : State) → place < length line → next ≡ StartField
+    → Some next ≡ next_state state (get_or line place 0)
     → Reads line places place state → Reads line (places ++ place ∷ []) (place + 1) next
 reads-comma line places place state InField lt start e reads = cc start
 reads-comma line places place state InQuoted lt start e reads = cc start
@@ -220,4 +223,10 @@ reads-end line places place state size ends reads =
     let front = map unquoted (pieces 0 places line) in
     let none : drop place line ≡ [] = drop_all place line (omega arith) in
     let read : fields_from_field line ≡ front ++ reads.field ∷ [] = ap fields_read reads.same ∙ rw none (at-end state front reads.field ends) in
-    rw (← size, reads.cut, map-append unquoted (pieces 0 places line) (reads.piece ∷ []), unquoted-stands state reads.piece reads.field ends reads.stands) (sym read)
+    rw (
+      ← size,
+      reads.cut,
+      map-append unquoted (pieces 0 places line) (reads.piece ∷ []),
+      unquoted-stands state reads.piece reads.field ends
+          reads.stands,
+    ) (sym read)

@@ -15,7 +15,7 @@ use Rattle.shared_buffer.specs.Content.{Content}
 use Rattle.shared_buffer.specs.Facts.{IsConsistent}
 use Rattle.shared_buffer.specs.declared.edges.Edge.{Edge}
 use Rattle.shared_buffer.specs.declared.node.Node.{Node}
-use Rattle.shared_buffer.proofs.SlotLemmas.{same_value}
+use Rattle.shared_buffer.proofs.SlotLaws.{same_value}
 use Rattle.list_buffer.specs.Held.{Holds}
 use Rattle.list_buffer.specs.Listed.{IsNodeOf, LeadsTo, IsEdgeOf, HasEdgeOf, HoldsLists}
 use Rattle.list_buffer.specs.Reach.{IsFrontHeld, IsReached, IsEdgeOfFront, IsEdgeOfHeld, LeadsToEdgeOf, HasEdgeSomewhere, HasEventAt}

@@ -7,7 +7,7 @@ use Rattle.cep_plan.specs.declared.plan.Plan.{Plan}
 use Rattle.cep_plan.specs.Entry.{Entry, event_at, last_entry, stages_of}
 use Rattle.cep_plan.specs.Partial.{is_partial}
 use Rattle.dewey_version.specs.Version.{begins}
-use Rattle.dewey_version.proofs.VersionLemmas.{begins-refl}
+use Rattle.dewey_version.proofs.VersionLaws.{begins-refl}
 use Rattle.nfa_compile.specs.Automaton.{number_of_list}
 use Rattle.match_labels.specs.Label.{label_of}
 use Rattle.shared_buffer.specs.Slots.{slot_at}
@@ -22,8 +22,8 @@ use Rattle.shared_buffer.specs.Facts.{IsConsistent}
 use Rattle.shared_buffer.specs.declared.edges.Edge.{Edge}
 use Rattle.shared_buffer.specs.declared.node.Node.{Node}
 use Rattle.shared_buffer.specs.declared.node.Standing.{Standing}
-use Rattle.shared_buffer.proofs.SlotLemmas.{same_value}
-use Rattle.shared_buffer.proofs.HoldLemmas.{chosen_yes, chosen_elsewhere, chosen_other}
+use Rattle.shared_buffer.proofs.SlotLaws.{same_value}
+use Rattle.shared_buffer.proofs.HoldLaws.{chosen_yes, chosen_elsewhere, chosen_other}
 use Rattle.list_buffer.specs.Held.{Holder, Holds, one_hold, with_hold, without_hold}
 use Rattle.list_buffer.specs.Listed.{IsNodeOf, LeadsTo, IsEdgeOf, IsListed, HasEdgeOf, HoldsLists}
 use Rattle.list_buffer.proofs.HeldLaws.{cases_list, one_hold-here, one_hold-other_list, one_hold-other_node}

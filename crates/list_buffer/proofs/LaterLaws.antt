@@ -15,7 +15,7 @@ use Rattle.shared_buffer.specs.Content.{Content}
 use Rattle.shared_buffer.specs.declared.edges.Edge.{Edge}
 use Rattle.shared_buffer.specs.declared.node.Node.{Node}
 use Rattle.shared_buffer.specs.declared.node.Standing.{Standing}
-use Rattle.shared_buffer.proofs.SlotLemmas.{changed_cases}
+use Rattle.shared_buffer.proofs.SlotLaws.{changed_cases}
 use Rattle.list_buffer.specs.Held.{Holds}
 use Rattle.list_buffer.specs.Listed.{IsEdgeOf, IsListed, HasEdgeOf, HoldsLists}
 use Rattle.list_buffer.specs.Reach.{StoodAs}

@@ -8,7 +8,7 @@ use Rattle.cep_plan.specs.declared.plan.Plan.{Plan}
 use Rattle.cep_plan.specs.Entry.{Entry, last_entry, stages_of}
 use Rattle.cep_plan.specs.Partial.{is_partial}
 use Rattle.dewey_version.specs.Version.{begins}
-use Rattle.dewey_version.proofs.VersionLemmas.{begins-refl}
+use Rattle.dewey_version.proofs.VersionLaws.{begins-refl}
 use Rattle.nfa_compile.specs.State.{IsCompilable}
 use Rattle.nfa_compile.specs.Automaton.{number_of_list}
 use Rattle.match_labels.specs.Label.{label_of}
@@ -26,8 +26,8 @@ use Rattle.shared_buffer.specs.Facts.{IsConsistent}
 use Rattle.shared_buffer.specs.declared.edges.Edge.{Edge}
 use Rattle.shared_buffer.specs.declared.node.Node.{Node}
 use Rattle.shared_buffer.specs.declared.node.Standing.{Standing}
-use Rattle.shared_buffer.proofs.SlotLemmas.{same_value}
-use Rattle.shared_buffer.proofs.EdgeLemmas.{found_of_listed}
+use Rattle.shared_buffer.proofs.SlotLaws.{same_value}
+use Rattle.shared_buffer.proofs.EdgeLaws.{found_of_listed}
 use Rattle.list_buffer.specs.Held.{Holds}
 use Rattle.list_buffer.specs.Listed.{LeadsTo, IsEdgeOf, HasEdgeOf, HoldsLists}
 use Rattle.list_buffer.proofs.HoldLaws.{holds_of}

@@ -13,7 +13,7 @@ use Rattle.cep_plan.specs.Partial.{may_grow, is_partial, has_entries}
 use Rattle.cep_plan.proofs.FilteredLaws.{Contains-filter, Contains-from_filter}
 use Rattle.live_laws.proofs.MemberLaws.{AllApart-filter}
 use Rattle.dewey_version.specs.Version.{begins}
-use Rattle.dewey_version.proofs.VersionLemmas.{begins-refl}
+use Rattle.dewey_version.proofs.VersionLaws.{begins-refl}
 use Rattle.match_labels.specs.Label.{label_of}
 use Rattle.match_labels.proofs.PathLaws.{front_begins}
 use Rattle.shared_buffer.specs.Slots.{slot_at}
@@ -24,8 +24,8 @@ use Rattle.shared_buffer.specs.Facts.{IsConsistent}
 use Rattle.shared_buffer.specs.declared.edges.Edge.{Edge}
 use Rattle.shared_buffer.specs.declared.node.Node.{Node}
 use Rattle.shared_buffer.specs.declared.node.Standing.{Standing}
-use Rattle.shared_buffer.proofs.SlotLemmas.{same_value}
-use Rattle.shared_buffer.proofs.EdgeLemmas.{one_edge}
+use Rattle.shared_buffer.proofs.SlotLaws.{same_value}
+use Rattle.shared_buffer.proofs.EdgeLaws.{one_edge}
 use Rattle.list_buffer.specs.Held.{Holds, is_entry}
 use Rattle.list_buffer.specs.Listed.{IsNodeOf, LeadsTo, IsEdgeOf, HoldsLists}
 use Rattle.list_buffer.specs.Reach.{IsFrontHeld, IsReached, HasEdgeSomewhere, HasEventAt}

@@ -5,7 +5,7 @@ use Rattle.std.specs.Prelude.{Contains, is_some, sum_by, count_by}
 use Rattle.std.specs.List.{AllByRecursion as Each}
 use Rattle.std.proofs.lemmas.List.Elements.{Contains-append_left, Contains-append_right, Contains-append_cases}
 use Rattle.std.proofs.lemmas.List.Sums.{sum_by-cons, sum_by-append}
-use Rattle.dewey_version.proofs.VersionLemmas.{begins-refl}
+use Rattle.dewey_version.proofs.VersionLaws.{begins-refl}
 use Rattle.dewey_version.specs.Version.{begins}
 use Rattle.cep_plan.proofs.SortedLaws.{Contains-cases, Contains-first, Contains-next}
 use Rattle.live_laws.specs.Starts.{AllApart}

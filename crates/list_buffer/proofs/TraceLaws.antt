@@ -14,7 +14,7 @@ use Rattle.shared_buffer.specs.Content.{Content}
 use Rattle.shared_buffer.specs.Facts.{IsConsistent}
 use Rattle.shared_buffer.specs.declared.edges.Edge.{Edge}
 use Rattle.shared_buffer.specs.declared.node.Node.{Node}
-use Rattle.shared_buffer.proofs.SlotLemmas.{same_value}
+use Rattle.shared_buffer.proofs.SlotLaws.{same_value}
 use Rattle.match_extract.specs.Path.{Takes, IsPath}
 use Rattle.match_extract.specs.Path.IsPath.{First, Later}
 use Rattle.list_buffer.specs.Held.{Holds}

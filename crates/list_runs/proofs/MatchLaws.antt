@@ -24,30 +24,43 @@ stages_again [] = refl
 stages_again (t ∷ taken) = λ i. t.stage ∷ stages_again taken i
 
 -- In order, the full ones among the lists of a step are the matches of its tick.
-pub matches_at-grown : (plan : Plan) (events : List Event) (event : Event) (starts : ℕ → Bool) → starts (length events) ≡ true → (runs : List ListRun) → StandsFor plan events starts runs
+pub matches_at-grown : (plan : Plan) (events : List Event) (event : Event) (starts : ℕ → Bool) → starts (length events) ≡ true
+    → (runs : List ListRun) → StandsFor plan events starts runs
     → (xs : List (List Taken)) → IsStrictlySortedBy list_cmp (map entries_in xs)
     → ((z : List Taken) → Contains xs z → Contains (grown plan runs event (length events)) z × (is_full plan (stages_in z) ≡ true))
     → ((z : List Taken) → Contains (grown plan runs event (length events)) z → is_full plan (stages_in z) ≡ true → Contains xs z)
     → xs ≡ map (taken_of (events ++ event ∷ [])) (filter (begins_in starts) (matches_at plan events event))
 matches_at-grown plan events event starts fresh runs stands xs sorted sound complete =
     sym (map_back entries_in (taken_of (events ++ event ∷ [])) xs (Each-from_contains (λ z. taken_of (events ++ event ∷ []) (entries_in z) ≡ z) xs back))
-    ∙ ap (map (taken_of (events ++ event ∷ []))) (matches_at-unique plan events event (begins_in starts) (map entries_in xs) sorted sound_entries complete_entries) where
+    ∙ ap (map (taken_of (events ++ event ∷ [])))
+    (matches_at-unique plan events event (begins_in starts) (map entries_in xs) sorted sound_entries complete_entries) where
       entries : (z : List Taken) (list : List Entry) → z ≡ taken_of (events ++ event ∷ []) list → entries_in z ≡ list
       entries z list is = ap entries_in is ∙ entries_in-taken_of (events ++ event ∷ []) list
 
       back : (z : List Taken) → Contains xs z → taken_of (events ++ event ∷ []) (entries_in z) ≡ z
-      back z q = let known = grown-sound plan events event starts fresh runs stands z (sound z q).0 in ap (taken_of (events ++ event ∷ [])) (entries z known.0 known.1) ∙ sym known.1
+      back z q = let known = grown-sound plan events event starts fresh runs stands z (sound z q).0 in
+          ap (taken_of (events ++ event ∷ [])) (entries z known.0 known.1) ∙ sym known.1
 
-      sound_entries : (list : List Entry) → Contains (map entries_in xs) list → (is_partial plan (events ++ event ∷ []) list ≡ true) × IsGrown events list × (is_full plan (stages_of list) ≡ true) × (begins_in starts list ≡ true)
+      sound_entries : (list : List Entry) → Contains (map entries_in xs) list → (is_partial plan (events ++ event ∷ []) list ≡ true)
+          × IsGrown events list × (is_full plan (stages_of list) ≡ true) × (begins_in starts list ≡ true)
       sound_entries list q =
           let found = Contains-from_map entries_in xs list q in
           let from = sound found.0 found.1 in
           let known = grown-sound plan events event starts fresh runs stands found.0 from.0 in
-          let is : known.0 ≡ list = sym (entries found.0 known.0 known.1) ∙ found.2 in
-          (sym (ap (is_partial plan (events ++ event ∷ [])) is) ∙ known.2, subst (IsGrown events) is known.3, sym (sym (ap (is_full plan) (stages_again found.0)) ∙ ap (λ l. is_full plan (stages_of l)) found.2) ∙ from.1, sym (ap (begins_in starts) is) ∙ known.4)
+          let is : known.0 ≡ list = sym (entries found.0 known.0 known.1) ∙ found.2 in (
+            sym (ap (is_partial plan (events ++ event ∷ [])) is)
+                ∙ known.2,
+            subst (IsGrown events) is known.3,
+            sym
+                (sym (ap (is_full plan) (stages_again found.0)) ∙ ap (λ l. is_full plan (stages_of l)) found.2)
+                ∙ from.1,
+            sym (ap (begins_in starts) is) ∙ known.4,
+          )
 
-      complete_entries : (list : List Entry) → is_partial plan (events ++ event ∷ []) list ≡ true → IsGrown events list → is_full plan (stages_of list) ≡ true → begins_in starts list ≡ true → Contains (map entries_in xs) list
+      complete_entries : (list : List Entry) → is_partial plan (events ++ event ∷ []) list ≡ true → IsGrown events list
+          → is_full plan (stages_of list) ≡ true → begins_in starts list ≡ true → Contains (map entries_in xs) list
       complete_entries list partial before full begins =
           subst (Contains (map entries_in xs)) (entries_in-taken_of (events ++ event ∷ []) list)
           (Contains-map entries_in xs (taken_of (events ++ event ∷ []) list)
-          (complete (taken_of (events ++ event ∷ []) list) (grown-complete plan events event starts fresh runs stands list partial before begins) (ap (is_full plan) (stages_in-taken_of (events ++ event ∷ []) list) ∙ full)))
+          (complete (taken_of (events ++ event ∷ []) list) (grown-complete plan events event starts fresh runs stands list partial before begins)
+          (ap (is_full plan) (stages_in-taken_of (events ++ event ∷ []) list) ∙ full)))

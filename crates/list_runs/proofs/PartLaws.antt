@@ -53,11 +53,14 @@ module _ {X Y : Type 0} where
         in_map false = refl
 
 -- the elements so far are mapped
-set_mapped : {X : Type 0} (f : X → X) (xs : List X) (i : ℕ) (x new : X) → i < length xs → x ≡ get_or (map f (take i xs) ++ drop i xs) i x → new ≡ f x → set (map f (take i xs) ++ drop i xs) i new ≡ map f (take (suc i) xs) ++ drop (suc i) xs
+set_mapped : {X : Type 0} (f : X → X) (xs : List X) (i : ℕ) (x new : X) → i < length xs → x ≡ get_or (map f (take i xs) ++ drop i xs) i x → new ≡ f x
+    → set (map f (take i xs) ++ drop i xs) i new ≡ map f (take (suc i) xs) ++ drop (suc i) xs
 set_mapped f [] i x new within is made = absurd (omega (arith, within))
 set_mapped f (y ∷ xs) zero x new within is made = λ k. (made ∙ ap f is) k ∷ xs
 set_mapped f (y ∷ xs) (suc i) x new within is made = ap (λ more. f y ∷ more) (set_mapped f xs i x new (omega (arith, within)) is made)
 
-pub set-mapped : {X : Type 0} (f : X → X) (xs items : List X) (i : ℕ) (x new : X) → items ≡ map f (take i xs) ++ drop i xs → i < length xs → x ≡ get_or items i x → new ≡ f x → set items i new ≡ map f (take (i + 1) xs) ++ drop (i + 1) xs
+pub set-mapped : {X : Type 0} (f : X → X) (xs items : List X) (i : ℕ) (x new : X) → items ≡ map f (take i xs) ++ drop i xs → i < length xs
+    → x ≡ get_or items i x → new ≡ f x → set items i new ≡ map f (take (i + 1) xs) ++ drop (i + 1) xs
 set-mapped f xs items i x new so_far within is made =
-    ap (λ l. set l i new) so_far ∙ set_mapped f xs i x new within (is ∙ ap (λ l. get_or l i x) so_far) made ∙ ap (λ n. map f (take n xs) ++ drop n xs) (sym (add-one i))
+    ap (λ l. set l i new) so_far ∙ set_mapped f xs i x new within (is ∙ ap (λ l. get_or l i x) so_far) made
+    ∙ ap (λ n. map f (take n xs) ++ drop n xs) (sym (add-one i))

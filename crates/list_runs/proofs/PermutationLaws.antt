@@ -47,9 +47,11 @@ module _ {X : Type 0} where
     apart_from xs (λ i j d p q e. let same : suc i ≡ suc j = h (suc i) (suc j) d (omega (arith, p)) (omega (arith, q)) e in omega (arith, same)),
   )
 
-  was_at : (xs : List X) (a b : ℕ) (d : X) → a < length xs → b < length xs → (k : ℕ) → k < length xs → (m : ℕ) × (m < length xs) × (get_or (swap xs a b) k d ≡ get_or xs m d) × Was a b k m
+  was_at : (xs : List X) (a b : ℕ) (d : X) → a < length xs → b < length xs → (k : ℕ) → k < length xs → (m : ℕ) × (m < length xs)
+      × (get_or (swap xs a b) k d ≡ get_or xs m d) × Was a b k m
   was_at xs a b d pa pb k lt = by_cases (swapped_from_swap xs (swap xs a b) a b d pa pb refl) (cases_eq k a) (cases_eq k b) where
-    by_cases : Swapped (λ i. get_or xs i d) (λ i. get_or (swap xs a b) i d) a b → (k ≡ a) ⊎ (k ≡ a → ⊥) → (k ≡ b) ⊎ (k ≡ b → ⊥) → (m : ℕ) × (m < length xs) × (get_or (swap xs a b) k d ≡ get_or xs m d) × Was a b k m
+    by_cases : Swapped (λ i. get_or xs i d) (λ i. get_or (swap xs a b) i d) a b → (k ≡ a) ⊎ (k ≡ a → ⊥) → (k ≡ b) ⊎ (k ≡ b → ⊥) → (m : ℕ)
+        × (m < length xs) × (get_or (swap xs a b) k d ≡ get_or xs m d) × Was a b k m
     by_cases moved (inl e) other = (b, pb, ap (λ n. get_or (swap xs a b) n d) e ∙ moved.0, inl (e, refl))
     by_cases moved (inr f) (inl e) = (a, pa, ap (λ n. get_or (swap xs a b) n d) e ∙ moved.1, inr (inl (e, refl)))
     by_cases moved (inr f) (inr g) = (k, lt, moved.2 k f g, inr (inr (f, g, refl)))

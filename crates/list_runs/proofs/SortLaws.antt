@@ -18,12 +18,15 @@ use Rattle.list_runs.proofs.StepLaws.{grown-sound, grown-once}
 use Rattle.list_runs.proofs.MatchLaws.{matches_at-grown}
 use Rattle.live_laws.proofs.OrderLaws.{strict_from_sort}
 
-pub matches_at-completed : (plan : Plan) (events : List Event) (event : Event) (starts : ℕ → Bool) → starts (length events) ≡ true → (runs : List ListRun) → StandsFor plan events starts runs → (xs : List (List Taken))
-    → IsPermutation (completed plan runs event (length events)) xs → IsSortedBy comes_earlier xs → xs ≡ map (taken_of (events ++ event ∷ [])) (filter (begins_in starts) (matches_at plan events event))
+pub matches_at-completed : (plan : Plan) (events : List Event) (event : Event) (starts : ℕ → Bool) → starts (length events) ≡ true
+    → (runs : List ListRun) → StandsFor plan events starts runs → (xs : List (List Taken))
+    → IsPermutation (completed plan runs event (length events)) xs → IsSortedBy comes_earlier xs
+    → xs ≡ map (taken_of (events ++ event ∷ [])) (filter (begins_in starts) (matches_at plan events event))
 unfolding completed
 matches_at-completed plan events event starts fresh runs stands xs moved sorted =
     matches_at-grown plan events event starts fresh runs stands xs
-    (strict_from_sort (filter full ended) xs (λ a b p q e. told a b (Contains-from_filter full ended a p).0 (Contains-from_filter full ended b q).0 e) (AllApart-filter full ended (grown-once plan events event starts fresh runs stands)) moved sorted)
+    (strict_from_sort (filter full ended) xs (λ a b p q e. told a b (Contains-from_filter full ended a p).0 (Contains-from_filter full ended b q).0
+    e) (AllApart-filter full ended (grown-once plan events event starts fresh runs stands)) moved sorted)
     (λ z q. Contains-from_filter full ended z (Contains-permutation xs (filter full ended) z (IsPermutation-sym (filter full ended) xs moved) q))
     (λ z q is. Contains-permutation (filter full ended) xs z moved (Contains-filter full ended z q is)) where
       ended : List (List Taken)
@@ -32,7 +35,8 @@ matches_at-completed plan events event starts fresh runs stands xs moved sorted 
       full : List Taken → Bool
       full list = is_full plan (stages_in list)
 
-      told : (a b : List Taken) → Contains (grown plan runs event (length events)) a → Contains (grown plan runs event (length events)) b → entries_in a ≡ entries_in b → a ≡ b
+      told : (a b : List Taken) → Contains (grown plan runs event (length events)) a → Contains (grown plan runs event (length events)) b
+          → entries_in a ≡ entries_in b → a ≡ b
       told a b p q e =
           let first = grown-sound plan events event starts fresh runs stands a p in
           let second = grown-sound plan events event starts fresh runs stands b q in

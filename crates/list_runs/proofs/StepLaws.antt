@@ -42,16 +42,19 @@ module _ {X : Type 0} where
   Each-end P (y ∷ xs) x h = Each-end P xs x h.1
 
 -- one more entry changes the start of the empty list alone
-begins_in-push : (starts : ℕ → Bool) (list : List Entry) (last : Entry) → starts last.position ≡ true → begins_in starts (list ++ last ∷ []) ≡ begins_in starts list
+begins_in-push : (starts : ℕ → Bool) (list : List Entry) (last : Entry) → starts last.position ≡ true
+    → begins_in starts (list ++ last ∷ []) ≡ begins_in starts list
 begins_in-push starts [] last h = h
 begins_in-push starts (first ∷ list) last h = refl
 
-module _ (plan : Plan) (events : List Event) (event : Event) (starts : ℕ → Bool) (fresh : starts (length events) ≡ true) (runs : List ListRun) (stands : StandsFor plan events starts runs) where
+module _ (plan : Plan) (events : List Event) (event : Event) (starts : ℕ → Bool) (fresh : starts (length events) ≡ true) (runs : List ListRun)
+    (stands : StandsFor plan events starts runs) where
   -- ---- the lists that end at the event
 
   -- a list of the step is a partial one that ends at the event
   pub grown-sound : (whole : List Taken) → Contains (grown plan runs event (length events)) whole
-      → (list : List Entry) × (whole ≡ taken_of (events ++ event ∷ []) list) × (is_partial plan (events ++ event ∷ []) list ≡ true) × IsGrown events list × (begins_in starts list ≡ true)
+      → (list : List Entry) × (whole ≡ taken_of (events ++ event ∷ []) list) × (is_partial plan (events ++ event ∷ []) list ≡ true)
+      × IsGrown events list × (begins_in starts list ≡ true)
   unfolding grown
   grown-sound whole q =
       let test : ListRun → Bool = λ r. takes plan r.list r.stage event (length events) in
@@ -64,12 +67,21 @@ module _ (plan : Plan) (events : List Event) (event : Event) (starts : ℕ → B
       let taken : run.list ≡ taken_of events list = ap (λ r. r.list) known.1 in
       let new : List Entry = list ++ record { stage = run.stage; position = length events } ∷ [] in
       let is : whole ≡ taken_of (events ++ event ∷ []) new =
-      sym found.2 ∙ (λ i. taken i ++ record { stage = run.stage; position = length events; event = event } ∷ []) ∙ sym (taken_of-push events event list run.stage among) in
-      let taking : takes plan (taken_of events list) run.stage event (length events) ≡ true = sym (ap (λ l. takes plan l run.stage event (length events)) taken) ∙ passed.1 in
-      (new, is, is_partial-grow plan events event list among run.stage ∙ and_from _ _ known.2 taking, (list, run.stage, refl, among), begins_in-push starts list (record { stage = run.stage; position = length events }) fresh ∙ known.3)
+      sym found.2 ∙ (λ i. taken i ++ record { stage = run.stage; position = length events; event = event } ∷ [])
+      ∙ sym (taken_of-push events event list run.stage among) in
+      let taking : takes plan (taken_of events list) run.stage event (length events) ≡ true = sym (ap (λ l. takes plan l run.stage event (length events)) taken) ∙ passed.1 in (
+        new,
+        is,
+        is_partial-grow plan events event list among run.stage
+            ∙ and_from _ _ known.2 taking,
+        (list, run.stage, refl, among),
+        begins_in-push starts list
+            (record { stage = run.stage; position = length events }) fresh ∙ known.3,
+      )
 
   -- each partial list that ends at the event is a list of the step
-  pub grown-complete : (list : List Entry) → is_partial plan (events ++ event ∷ []) list ≡ true → IsGrown events list → begins_in starts list ≡ true → Contains (grown plan runs event (length events)) (taken_of (events ++ event ∷ []) list)
+  pub grown-complete : (list : List Entry) → is_partial plan (events ++ event ∷ []) list ≡ true → IsGrown events list → begins_in starts list ≡ true
+      → Contains (grown plan runs event (length events)) (taken_of (events ++ event ∷ []) list)
   unfolding grown
   grown-complete whole partial (list, stage, is, among) begins =
       let test : ListRun → Bool = λ r. takes plan r.list r.stage event (length events) in
@@ -77,7 +89,10 @@ module _ (plan : Plan) (events : List Event) (event : Event) (starts : ℕ → B
       (sym (is_partial-grow plan events event list among stage) ∙ sym (ap (is_partial plan (events ++ event ∷ [])) is) ∙ partial) in
       subst (λ l. Contains (map (with_event event (length events)) (filter test runs)) l)
       (sym (taken_of-push events event list stage among) ∙ sym (ap (taken_of (events ++ event ∷ [])) is))
-      (Contains-map (with_event event (length events)) (filter test runs) (run_of events list stage) (Contains-filter test runs (run_of events list stage) (stands.complete list stage both.0 (sym (begins_in-push starts list (record { stage = stage; position = length events }) fresh) ∙ sym (ap (begins_in starts) is) ∙ begins)) both.1))
+      (Contains-map (with_event event (length events)) (filter test runs) (run_of events list stage)
+      (Contains-filter test runs (run_of events list stage)
+      (stands.complete list stage both.0 (sym (begins_in-push starts list (record { stage = stage; position = length events }) fresh)
+      ∙ sym (ap (begins_in starts) is) ∙ begins)) both.1))
 
   pub grown-once : AllApart (grown plan runs event (length events))
   unfolding grown
@@ -93,7 +108,8 @@ module _ (plan : Plan) (events : List Event) (event : Event) (starts : ℕ → B
 
   -- ---- the runs after the event
   survivor-sound : (run : ListRun) → Contains runs run → survives plan run.list run.stage event (length events) ≡ true
-      → (list : List Entry) × (run ≡ run_of (events ++ event ∷ []) list run.stage) × (waits plan (events ++ event ∷ []) list run.stage ≡ true) × (begins_in starts list ≡ true)
+      → (list : List Entry) × (run ≡ run_of (events ++ event ∷ []) list run.stage) × (waits plan (events ++ event ∷ []) list run.stage ≡ true)
+      × (begins_in starts list ≡ true)
   survivor-sound run q passed =
       let known = stands.sound run q in
       let list : List Entry = known.0 in
@@ -101,13 +117,15 @@ module _ (plan : Plan) (events : List Event) (event : Event) (starts : ℕ → B
       let taken : run.list ≡ taken_of events list = ap (λ r. r.list) known.1 in (
         list,
         known.1 ∙ (λ i. record { stage = run.stage; list = sym (taken_of-append events (event ∷ []) list among) i }),
-        waits-old plan events event list among run.stage ∙ and_from _ _ known.2 (sym (ap (λ l. survives plan l run.stage event (length events)) taken) ∙ passed),
+        waits-old plan events event list among run.stage
+            ∙ and_from _ _ known.2 (sym (ap (λ l. survives plan l run.stage event (length events)) taken) ∙ passed),
         known.3,
       )
 
   -- the runs of a list that ends at the event
   runs_of-sound : (whole : List Taken) (run : ListRun) → Contains (grown plan runs event (length events)) whole → Contains (runs_of plan whole) run
-      → (list : List Entry) × (run ≡ run_of (events ++ event ∷ []) list run.stage) × (waits plan (events ++ event ∷ []) list run.stage ≡ true) × (begins_in starts list ≡ true)
+      → (list : List Entry) × (run ≡ run_of (events ++ event ∷ []) list run.stage) × (waits plan (events ++ event ∷ []) list run.stage ≡ true)
+      × (begins_in starts list ≡ true)
   runs_of-sound whole run p q =
       let known = grown-sound whole p in
       let new : List Entry = known.0 in
@@ -120,7 +138,8 @@ module _ (plan : Plan) (events : List Event) (event : Event) (starts : ℕ → B
       let waiting : waits plan (events ++ event ∷ []) new stage ≡ true =
       ap (λ l. waits plan (events ++ event ∷ []) l stage) before.2
       ∙ waits-new plan events event before.0 (record { stage = before.1; position = length events }) refl stage
-      ∙ and_from _ _ (sym (ap (is_partial plan (events ++ event ∷ [])) before.2) ∙ known.2) (sym (ap (λ l. may_follow plan l stage) (entries ∙ ap stages_of before.2)) ∙ follow) in (
+      ∙ and_from _ _ (sym (ap (is_partial plan (events ++ event ∷ [])) before.2) ∙ known.2)
+      (sym (ap (λ l. may_follow plan l stage) (entries ∙ ap stages_of before.2)) ∙ follow) in (
         new,
         (λ i. record { stage = run.stage; list = (sym (ap (λ r. r.list) found.2) ∙ known.1) i }),
         sym (ap (waits plan (events ++ event ∷ []) new) same_stage) ∙ waiting,
@@ -128,18 +147,21 @@ module _ (plan : Plan) (events : List Event) (event : Event) (starts : ℕ → B
       )
 
   stepped-sound : (run : ListRun) → Contains (stepped plan runs event (length events)) run
-      → (list : List Entry) × (run ≡ run_of (events ++ event ∷ []) list run.stage) × (waits plan (events ++ event ∷ []) list run.stage ≡ true) × (begins_in starts list ≡ true)
+      → (list : List Entry) × (run ≡ run_of (events ++ event ∷ []) list run.stage) × (waits plan (events ++ event ∷ []) list run.stage ≡ true)
+      × (begins_in starts list ≡ true)
   unfolding stepped
   stepped-sound run q = split (Contains-append_cases (filter test runs) (flat_map (runs_of plan) (grown plan runs event (length events))) run q) where
     test : ListRun → Bool
     test r = survives plan r.list r.stage event (length events)
 
     split : Contains (filter test runs) run ⊎ Contains (flat_map (runs_of plan) (grown plan runs event (length events))) run
-        → (list : List Entry) × (run ≡ run_of (events ++ event ∷ []) list run.stage) × (waits plan (events ++ event ∷ []) list run.stage ≡ true) × (begins_in starts list ≡ true)
+        → (list : List Entry) × (run ≡ run_of (events ++ event ∷ []) list run.stage) × (waits plan (events ++ event ∷ []) list run.stage ≡ true)
+        × (begins_in starts list ≡ true)
     split (inl p) = let passed = Contains-from_filter test runs run p in survivor-sound run passed.0 passed.1
     split (inr p) = let found = Contains-from_flat_map (runs_of plan) (grown plan runs event (length events)) run p in runs_of-sound found.0 run found.1 found.2
 
-  survivor-complete : (list : List Entry) (stage : ℕ) → AreAmong events list → waits plan (events ++ event ∷ []) list stage ≡ true → begins_in starts list ≡ true
+  survivor-complete : (list : List Entry) (stage : ℕ) → AreAmong events list → waits plan (events ++ event ∷ []) list stage ≡ true
+      → begins_in starts list ≡ true
       → Contains (filter (λ r. survives plan r.list r.stage event (length events)) runs) (run_of (events ++ event ∷ []) list stage)
   survivor-complete list stage among h begins =
       let test : ListRun → Bool = λ r. survives plan r.list r.stage event (length events) in
@@ -153,23 +175,35 @@ module _ (plan : Plan) (events : List Event) (event : Event) (starts : ℕ → B
       let all = range_with_len 0 (length plan.stages) in
       let whole = taken_of (events ++ event ∷ []) list in
       let both = and_parts (is_partial plan (events ++ event ∷ []) (before.0 ++ record { stage = before.1; position = length events } ∷ [])) (may_follow plan (stages_of (before.0 ++ record { stage = before.1; position = length events } ∷ [])) stage)
-      (sym (waits-new plan events event before.0 (record { stage = before.1; position = length events }) refl stage) ∙ sym (ap (λ l. waits plan (events ++ event ∷ []) l stage) before.2) ∙ h) in
+      (sym (waits-new plan events event before.0 (record { stage = before.1; position = length events }) refl stage)
+      ∙ sym (ap (λ l. waits plan (events ++ event ∷ []) l stage) before.2) ∙ h) in
       let partial : is_partial plan (events ++ event ∷ []) list ≡ true = ap (is_partial plan (events ++ event ∷ [])) before.2 ∙ both.0 in
       let follow : may_follow plan (stages_of list) stage ≡ true = ap (λ l. may_follow plan (stages_of l) stage) before.2 ∙ both.1 in
-      Contains-flat_map (runs_of plan) (grown plan runs event (length events)) whole (run_of (events ++ event ∷ []) list stage) (grown-complete list partial before begins)
+      Contains-flat_map (runs_of plan) (grown plan runs event (length events)) whole (run_of (events ++ event ∷ []) list stage)
+      (grown-complete list partial before begins)
       (Contains-map (λ (s : ℕ). record { stage = s; list = whole }) (filter (may_follow plan (stages_in whole)) all) stage
-      (Contains-filter (may_follow plan (stages_in whole)) all stage (Contains-range 0 (length plan.stages) stage (omega arith) (omega (arith, stage_known plan (stages_of list) stage follow)))
+      (Contains-filter (may_follow plan (stages_in whole)) all stage
+      (Contains-range 0 (length plan.stages) stage (omega arith) (omega (arith, stage_known plan (stages_of list) stage follow)))
       (ap (λ l. may_follow plan l stage) (stages_in-taken_of (events ++ event ∷ []) list) ∙ follow)))
 
-  stepped-complete : (list : List Entry) (stage : ℕ) → waits plan (events ++ event ∷ []) list stage ≡ true → begins_in starts list ≡ true → Contains (stepped plan runs event (length events)) (run_of (events ++ event ∷ []) list stage)
+  stepped-complete : (list : List Entry) (stage : ℕ) → waits plan (events ++ event ∷ []) list stage ≡ true → begins_in starts list ≡ true
+      → Contains (stepped plan runs event (length events)) (run_of (events ++ event ∷ []) list stage)
   unfolding stepped
   stepped-complete list stage h begins =
-      split (rising_split (length plan.stages) 0 events list (subst (λ n. IsRising (length plan.stages) 0 n list) (length-append events (event ∷ [])) (may_grow-rising plan (events ++ event ∷ []) list (waits-may_grow plan (events ++ event ∷ []) list stage h)))) where
-        split : AreAmong events list ⊎ IsGrown events list → Contains (filter (λ r. survives plan r.list r.stage event (length events)) runs ++ flat_map (runs_of plan) (grown plan runs event (length events))) (run_of (events ++ event ∷ []) list stage)
+      split (rising_split (length plan.stages) 0 events list
+      (subst (λ n. IsRising (length plan.stages) 0 n list) (length-append events (event ∷ []))
+      (may_grow-rising plan (events ++ event ∷ []) list (waits-may_grow plan (events ++ event ∷ []) list stage h)))) where
+        split : AreAmong events list ⊎ IsGrown events list
+            → Contains (filter (λ r. survives plan r.list r.stage event (length events)) runs
+            ++ flat_map (runs_of plan) (grown plan runs event (length events))) (run_of (events ++ event ∷ []) list stage)
         split (inl among) =
-            Contains-append_left (filter (λ r. survives plan r.list r.stage event (length events)) runs) (flat_map (runs_of plan) (grown plan runs event (length events))) (run_of (events ++ event ∷ []) list stage) (survivor-complete list stage among h begins)
+            Contains-append_left (filter (λ r. survives plan r.list r.stage event (length events)) runs)
+            (flat_map (runs_of plan) (grown plan runs event (length events))) (run_of (events ++ event ∷ []) list stage)
+            (survivor-complete list stage among h begins)
         split (inr before) =
-            Contains-append_right (filter (λ r. survives plan r.list r.stage event (length events)) runs) (flat_map (runs_of plan) (grown plan runs event (length events))) (run_of (events ++ event ∷ []) list stage) (grown-waits list stage before h begins)
+            Contains-append_right (filter (λ r. survives plan r.list r.stage event (length events)) runs)
+            (flat_map (runs_of plan) (grown plan runs event (length events))) (run_of (events ++ event ∷ []) list stage)
+            (grown-waits list stage before h begins)
 
   -- ---- each once
 
@@ -177,7 +211,8 @@ module _ (plan : Plan) (events : List Event) (event : Event) (starts : ℕ → B
   run_before : (run : ListRun) → Contains runs run → Each (λ t. t.position < length events) run.list
   run_before run q =
       let known = stands.sound run q in
-      subst (Each (λ t. t.position < length events)) (sym (ap (λ r. r.list) known.1)) (Each-map (λ t. t.position < length events) (taken_at events) known.0 (waits-among plan events known.0 run.stage known.2))
+      subst (Each (λ t. t.position < length events)) (sym (ap (λ r. r.list) known.1))
+      (Each-map (λ t. t.position < length events) (taken_at events) known.0 (waits-among plan events known.0 run.stage known.2))
 
   run_after : (whole : List Taken) → Contains (grown plan runs event (length events)) whole → Each (λ t. t.position < length events) whole → ⊥
   unfolding grown
@@ -187,11 +222,14 @@ module _ (plan : Plan) (events : List Event) (event : Event) (starts : ℕ → B
       omega (arith, last)
 
   in_whole : (whole : List Taken) (run : ListRun) → Contains (runs_of plan whole) run → whole ≡ run.list
-  in_whole whole run q = ap (λ r. r.list) (Contains-from_map (λ (s : ℕ). record { stage = s; list = whole }) (filter (may_follow plan (stages_in whole)) (range_with_len 0 (length plan.stages))) run q).2
+  in_whole whole run q =
+      ap (λ r. r.list) (Contains-from_map (λ (s : ℕ). record { stage = s; list = whole })
+      (filter (may_follow plan (stages_in whole)) (range_with_len 0 (length plan.stages))) run q).2
 
   runs_of-once : (whole : List Taken) → AllApart (runs_of plan whole)
   runs_of-once whole =
-      AllApart-map (λ (s : ℕ). record { stage = s; list = whole }) (filter (may_follow plan (stages_in whole)) (range_with_len 0 (length plan.stages))) (λ a b p q e. ap (λ r. r.stage) e)
+      AllApart-map (λ (s : ℕ). record { stage = s; list = whole })
+      (filter (may_follow plan (stages_in whole)) (range_with_len 0 (length plan.stages))) (λ a b p q e. ap (λ r. r.stage) e)
       (AllApart-filter (may_follow plan (stages_in whole)) (range_with_len 0 (length plan.stages)) (AllApart-range 0 (length plan.stages)))
 
   apart_from_old : (a b : ListRun) → Contains runs a → Contains (flat_map (runs_of plan) (grown plan runs event (length events))) b → a ≡ b → ⊥
@@ -206,7 +244,8 @@ module _ (plan : Plan) (events : List Event) (event : Event) (starts : ℕ → B
       let new = flat_map (runs_of plan) (grown plan runs event (length events)) in
       AllApart-append (filter test runs) new (AllApart-filter test runs stands.once)
       (AllApart-flat_map (runs_of plan) (grown plan runs event (length events)) runs_of-once (λ a b y p q. in_whole a y p ∙ sym (in_whole b y q)) grown-once)
-      (Each-from_contains (λ a. Each (λ b. a ≡ b → ⊥) new) (filter test runs) (λ a p. Each-from_contains (λ b. a ≡ b → ⊥) new (λ b q e. apart_from_old a b (Contains-from_filter test runs a p).0 q e)))
+      (Each-from_contains (λ a. Each (λ b. a ≡ b → ⊥) new) (filter test runs)
+      (λ a p. Each-from_contains (λ b. a ≡ b → ⊥) new (λ b q e. apart_from_old a b (Contains-from_filter test runs a p).0 q e)))
 
   -- The runs that a step leaves stand for the lists that wait after the event.
   pub StandsFor-stepped : StandsFor plan (events ++ event ∷ []) starts (stepped plan runs event (length events))

@@ -43,8 +43,10 @@ completed plan runs event position = filter (λ list. is_full plan (stages_in li
 abbrev pub run_of : List Event → List Entry → ℕ → ListRun
 run_of events list stage = record { stage = stage; list = taken_of events list }
 
--- The runs are those of the lists that wait after the events and begin at one of these positions, one for each stage that a list waits for. The empty list has its runs too, since it waits for the stages that may come first.
+-- The runs are those of the lists that wait after the events and begin at one of these positions, one for each stage that a list waits for. The empty
+-- list has its runs too, since it waits for the stages that may come first.
 pub record StandsFor (plan : Plan) (events : List Event) (starts : ℕ → Bool) (runs : List ListRun) : Type 0 where
-  pub sound : (run : ListRun) → Contains runs run → (list : List Entry) × (run ≡ run_of events list run.stage) × (waits plan events list run.stage ≡ true) × (begins_in starts list ≡ true)
+  pub sound : (run : ListRun) → Contains runs run → (list : List Entry) × (run ≡ run_of events list run.stage)
+      × (waits plan events list run.stage ≡ true) × (begins_in starts list ≡ true)
   pub complete : (list : List Entry) (stage : ℕ) → waits plan events list stage ≡ true → begins_in starts list ≡ true → Contains runs (run_of events list stage)
   pub once : AllApart runs

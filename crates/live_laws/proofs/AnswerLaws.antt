@@ -23,9 +23,11 @@ use Rattle.live_laws.proofs.LiveLaws.{is_live-waits, waits-is_live}
 ends_at-grown : (events : List Event) (list : List Entry) → IsGrown events list → ends_at (length events) list ≡ true
 ends_at-grown events list before =
     ap (ends_at (length events)) before.2
-    ∙ ap (λ o. option_map_or (λ (last : Entry). last.position == length events) o false) (last_or-push None before.0 (record { stage = before.1; position = length events })) ∙ eq-eqb (length events) (length events) refl
+    ∙ ap (λ o. option_map_or (λ (last : Entry). last.position == length events) o false)
+    (last_or-push None before.0 (record { stage = before.1; position = length events })) ∙ eq-eqb (length events) (length events) refl
 
-pub grown_from_end : (plan : Plan) (events : List Event) (event : Event) (list : List Entry) → is_partial plan (events ++ event ∷ []) list ≡ true → ends_at (length events) list ≡ true → IsGrown events list
+pub grown_from_end : (plan : Plan) (events : List Event) (event : Event) (list : List Entry) → is_partial plan (events ++ event ∷ []) list ≡ true
+    → ends_at (length events) list ≡ true → IsGrown events list
 grown_from_end plan events event list partial ends =
     split (rising_split (length plan.stages) 0 events list (rising list (is_partial-rising plan (events ++ event ∷ []) list partial))) where
       rising : (l : List Entry) → IsRisingList (length plan.stages) 0 (length (events ++ event ∷ [])) l → IsRising (length plan.stages) 0 (length events + 1) l
@@ -41,13 +43,18 @@ grown_from_end plan events event list partial ends =
       split (inr before) = before
 
 -- Lists in order that are just the full ones among the partial lists that end at the event, and that pass a test, are the matches of its tick that pass.
-pub matches_at-unique : (plan : Plan) (events : List Event) (event : Event) (passes : List Entry → Bool) (xs : List (List Entry)) → IsStrictlySortedBy list_cmp xs
-    → ((z : List Entry) → Contains xs z → (is_partial plan (events ++ event ∷ []) z ≡ true) × IsGrown events z × (is_full plan (stages_of z) ≡ true) × (passes z ≡ true))
-    → ((z : List Entry) → is_partial plan (events ++ event ∷ []) z ≡ true → IsGrown events z → is_full plan (stages_of z) ≡ true → passes z ≡ true → Contains xs z)
+pub matches_at-unique : (plan : Plan) (events : List Event) (event : Event) (passes : List Entry → Bool) (xs : List (List Entry))
+    → IsStrictlySortedBy list_cmp xs
+    → ((z : List Entry) → Contains xs z → (is_partial plan (events ++ event ∷ []) z ≡ true) × IsGrown events z × (is_full plan (stages_of z) ≡ true)
+    × (passes z ≡ true))
+    → ((z : List Entry) → is_partial plan (events ++ event ∷ []) z ≡ true → IsGrown events z → is_full plan (stages_of z) ≡ true → passes z ≡ true
+    → Contains xs z)
     → xs ≡ filter passes (matches_at plan events event)
 unfolding is_match
 matches_at-unique plan events event passes xs sorted sound complete =
-    filtered_unique (λ list. passes list && (ends_at (length events) list && (is_partial plan (events ++ event ∷ []) list && is_full plan (stages_of list)))) (length plan.stages) (length events + 1) xs sorted
+    filtered_unique (λ list. passes list
+    && (ends_at (length events) list && (is_partial plan (events ++ event ∷ []) list && is_full plan (stages_of list)))) (length plan.stages)
+    (length events + 1) xs sorted
     (λ z q. let known = sound z q in (
       subst (λ n. IsRisingList (length plan.stages) 0 n z) (length-append events (event ∷ [])) (is_partial-rising plan (events ++ event ∷ []) z known.0),
       and_from _ _ known.3 (and_from _ _ (ends_at-grown events z known.1) (and_from _ _ known.0 known.2)),
@@ -56,7 +63,8 @@ matches_at-unique plan events event passes xs sorted sound complete =
     let both = and_parts (ends_at (length events) z) (is_partial plan (events ++ event ∷ []) z && is_full plan (stages_of z)) passed.1 in
     let match = and_parts (is_partial plan (events ++ event ∷ []) z) (is_full plan (stages_of z)) both.1 in
     complete z match.0 (grown_from_end plan events event z match.0 both.0) match.1 passed.0)
-    ∙ sym (filter-filter passes (λ list. ends_at (length events) list && (is_partial plan (events ++ event ∷ []) list && is_full plan (stages_of list))) (rising_lists (length plan.stages) 0 (length events + 1)))
+    ∙ sym (filter-filter passes (λ list. ends_at (length events) list
+    && (is_partial plan (events ++ event ∷ []) list && is_full plan (stages_of list))) (rising_lists (length plan.stages) 0 (length events + 1)))
 
 -- Lists in order that are just the partial ones that wait and pass a test are the live lists that pass.
 pub live-unique : (plan : Plan) (events : List Event) (passes : List Entry → Bool) (xs : List (List Entry)) → IsStrictlySortedBy list_cmp xs

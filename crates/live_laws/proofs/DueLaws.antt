@@ -23,10 +23,14 @@ use Rattle.live_laws.proofs.MemberLaws.{filter-same, filter-filter, Each-filter}
 -- the timeouts of a tick, from some starts
 timeouts_at-live : (plan : Plan) (events : List Event) (before : Option Moment) (now : Moment) (starts : ℕ → Bool)
     → filter (begins_in starts) (timeouts_at plan events before now)
-    ≡ filter (λ list. ((is_due (limit_of plan (taken_of events list)) before now && not (is_full plan (stages_of list))) && begins_in starts list) && is_live plan events list) (lists_within plan (length events))
+    ≡ filter (λ list. ((is_due (limit_of plan (taken_of events list)) before now && not (is_full plan (stages_of list))) && begins_in starts list)
+    && is_live plan events list) (lists_within plan (length events))
 timeouts_at-live plan events before now starts =
-    filter-filter (begins_in starts) (λ list. is_due (limit_of plan (taken_of events list)) before now && is_live plan events list && not (is_full plan (stages_of list))) (lists_within plan (length events))
-    ∙ ap (λ t. filter t (lists_within plan (length events))) (λ i list. turned (begins_in starts list) (is_due (limit_of plan (taken_of events list)) before now) (is_live plan events list) (not (is_full plan (stages_of list))) i) where
+    filter-filter (begins_in starts) (λ list. is_due (limit_of plan (taken_of events list)) before now && is_live plan events list
+    && not (is_full plan (stages_of list))) (lists_within plan (length events))
+    ∙ ap (λ t. filter t (lists_within plan (length events)))
+    (λ i list. turned (begins_in starts list) (is_due (limit_of plan (taken_of events list)) before now) (is_live plan events list)
+    (not (is_full plan (stages_of list))) i) where
       turned : (b d l f : Bool) → (b && (d && l && f)) ≡ (((d && f) && b) && l)
       turned false false l f = refl
       turned false true l false = refl
@@ -50,10 +54,12 @@ abbrev BeginsAt : ℕ → List Entry → Type 0
 BeginsAt position [] = ⊥
 BeginsAt position (e ∷ _) = e.position ≡ position
 
-block-begins : (from : ℕ) (later : List (List Entry)) (low n : ℕ) → Each (BeginsAt from) (flat_map (λ stage. begun_with (record { stage = stage; position = from }) later) (range_with_len low n))
+block-begins : (from : ℕ) (later : List (List Entry)) (low n : ℕ)
+    → Each (BeginsAt from) (flat_map (λ stage. begun_with (record { stage = stage; position = from }) later) (range_with_len low n))
 block-begins from later low zero = tt
 block-begins from later low (suc n) =
-    Each-append (BeginsAt from) (begun_with (record { stage = low; position = from }) later) (flat_map (λ stage. begun_with (record { stage = stage; position = from }) later) (range_with_len (low + 1) n))
+    Each-append (BeginsAt from) (begun_with (record { stage = low; position = from }) later)
+    (flat_map (λ stage. begun_with (record { stage = stage; position = from }) later) (range_with_len (low + 1) n))
     (refl, Each-map (BeginsAt from) (λ list. record { stage = low; position = from } ∷ list) later (all later)) (block-begins from later (low + 1) n) where
       all : (ls : List (List Entry)) → Each (λ list. BeginsAt from (record { stage = low; position = from } ∷ list)) ls
       all [] = tt
@@ -61,7 +67,8 @@ block-begins from later low (suc n) =
 
 range-from : (low n : ℕ) → Each (λ s. low ≤ s) (range_with_len low n)
 range-from low zero = tt
-range-from low (suc n) = (omega arith, Each-weaker (λ s. low + 1 ≤ s) (λ s. low ≤ s) (λ s h. omega (arith, h)) (range_with_len (low + 1) n) (range-from (low + 1) n))
+range-from low (suc n) =
+    (omega arith, Each-weaker (λ s. low + 1 ≤ s) (λ s. low ≤ s) (λ s h. omega (arith, h)) (range_with_len (low + 1) n) (range-from (low + 1) n))
 
 module _ (rest : List Entry → Bool) where
   -- what begins at one of the starts, or at one of them, and passes the rest
@@ -87,7 +94,8 @@ module _ (rest : List Entry → Bool) where
     at_first : filter (at from) (block ++ later) ≡ filter rest block
     at_first =
         filter-append (at from) block later
-        ∙ (λ i. filter-same (at from) rest block (Each-weaker (BeginsAt from) (λ l. at from l ≡ rest l) (λ l h. here (λ p. p == from) from l (eq-eqb from from refl) h) block first) i
+        ∙ (λ i. filter-same (at from) rest block (Each-weaker (BeginsAt from) (λ l. at from l ≡ rest l)
+        (λ l h. here (λ p. p == from) from l (eq-eqb from from refl) h) block first) i
         ++ filter_none (at from) later (Each-weaker (StartsFrom (from + 1)) (λ l. at from l ≡ false) (later_only from) later behind) i)
         ∙ append-nil (filter rest block)
 
@@ -95,29 +103,37 @@ module _ (rest : List Entry → Bool) where
     at_later start above =
         filter-append (at start) block later
         ∙ ap (λ xs. xs ++ filter (at start) later)
-        (filter_none (at start) block (Each-weaker (BeginsAt from) (λ l. at start l ≡ false) (λ l h. nowhere (λ p. p == start) from l (ne_eqb from start (λ same. omega (arith, above, same))) h) block first))
+        (filter_none (at start) block (Each-weaker (BeginsAt from) (λ l. at start l ≡ false)
+        (λ l h. nowhere (λ p. p == start) from l (ne_eqb from start (λ same. omega (arith, above, same))) h) block first))
 
     one_start : (starts : ℕ → Bool) (due : Bool) (ss : List ℕ) → starts from ≡ due → Each (λ s. from + 1 ≤ s) ss
         → filter (among starts) later ≡ flat_map (λ s. filter (at s) later) ss
         → filter (among starts) (block ++ later) ≡ flat_map (λ s. filter (at s) (block ++ later)) (cond due (from ∷ ss) ss)
     one_start starts true ss is above same =
         filter-append (among starts) block later
-        ∙ (λ i. filter-same (among starts) rest block (Each-weaker (BeginsAt from) (λ l. among starts l ≡ rest l) (λ l h. here starts from l is h) block first) i ++ same i)
-        ∙ (λ i. sym at_first i ++ flat_map-same (λ s. filter (at s) later) (λ s. filter (at s) (block ++ later)) ss (Each-weaker (λ s. from + 1 ≤ s) (λ s. filter (at s) later ≡ filter (at s) (block ++ later)) (λ s h. sym (at_later s h)) ss above) i)
+        ∙ (λ i. filter-same (among starts) rest block
+        (Each-weaker (BeginsAt from) (λ l. among starts l ≡ rest l) (λ l h. here starts from l is h) block first) i ++ same i)
+        ∙ (λ i. sym at_first i
+        ++ flat_map-same (λ s. filter (at s) later) (λ s. filter (at s) (block ++ later)) ss
+        (Each-weaker (λ s. from + 1 ≤ s) (λ s. filter (at s) later ≡ filter (at s) (block ++ later)) (λ s h. sym (at_later s h)) ss above) i)
     one_start starts false ss is above same =
         filter-append (among starts) block later
-        ∙ (λ i. filter_none (among starts) block (Each-weaker (BeginsAt from) (λ l. among starts l ≡ false) (λ l h. nowhere starts from l is h) block first) i ++ same i)
-        ∙ flat_map-same (λ s. filter (at s) later) (λ s. filter (at s) (block ++ later)) ss (Each-weaker (λ s. from + 1 ≤ s) (λ s. filter (at s) later ≡ filter (at s) (block ++ later)) (λ s h. sym (at_later s h)) ss above)
+        ∙ (λ i. filter_none (among starts) block (Each-weaker (BeginsAt from) (λ l. among starts l ≡ false) (λ l h. nowhere starts from l is h) block
+        first) i ++ same i)
+        ∙ flat_map-same (λ s. filter (at s) later) (λ s. filter (at s) (block ++ later)) ss
+        (Each-weaker (λ s. from + 1 ≤ s) (λ s. filter (at s) later ≡ filter (at s) (block ++ later)) (λ s h. sym (at_later s h)) ss above)
 
   -- the lists that begin at some starts, start by start
   pub by_starts : (starts : ℕ → Bool) (stages from count : ℕ)
-      → filter (among starts) (rising_lists stages from count) ≡ flat_map (λ s. filter (at s) (rising_lists stages from count)) (filter starts (range_with_len from count))
+      → filter (among starts) (rising_lists stages from count)
+      ≡ flat_map (λ s. filter (at s) (rising_lists stages from count)) (filter starts (range_with_len from count))
   unfolding rising_lists
   by_starts starts stages from zero = refl
   by_starts starts stages from (suc count) =
       let later = rising_lists stages (from + 1) count in
       one_start from (flat_map (λ stage. begun_with (record { stage = stage; position = from }) later) (range_with_len 0 stages)) later
-      (block-begins from later 0 stages) (rising_lists-start stages (from + 1) count) starts (starts from) (filter starts (range_with_len (from + 1) count)) refl
+      (block-begins from later 0 stages) (rising_lists-start stages (from + 1) count) starts (starts from)
+      (filter starts (range_with_len (from + 1) count)) refl
       (Each-filter (λ s. from + 1 ≤ s) starts (range_with_len (from + 1) count) (range-from (from + 1) count))
       (by_starts starts stages (from + 1) count)
 
@@ -125,7 +141,8 @@ module _ (rest : List Entry → Bool) where
 abbrev unfinished : Plan → List Event → List Entry → Bool
 unfinished plan events list = not (is_full plan (stages_of list)) && is_live plan events list
 
-nonempty : (P : List Entry → Type 0) (stages from to : ℕ) → ((first : Entry) (later : List Entry) → P (first ∷ later)) → (xs : List (List Entry)) → Each (IsRisingList stages from to) xs → Each P xs
+nonempty : (P : List Entry → Type 0) (stages from to : ℕ) → ((first : Entry) (later : List Entry) → P (first ∷ later)) → (xs : List (List Entry))
+    → Each (IsRisingList stages from to) xs → Each P xs
 nonempty P stages from to h [] r = tt
 nonempty P stages from to h ([] ∷ xs) r = absurd r.0
 nonempty P stages from to h ((e ∷ l) ∷ xs) r = (h e l, nonempty P stages from to h xs r.1)
@@ -138,29 +155,39 @@ and-moved true true false l = refl
 and-moved true true true l = refl
 
 module _ (plan : Plan) (events : List Event) where
-  waiting_at-start : (start : ℕ) → filter (λ list. begins_in (λ p. p == start) list && unfinished plan events list) (lists_within plan (length events)) ≡ waiting_at plan events start
+  waiting_at-start : (start : ℕ)
+      → filter (λ list. begins_in (λ p. p == start) list && unfinished plan events list) (lists_within plan (length events))
+      ≡ waiting_at plan events start
   unfolding waiting_at
   waiting_at-start start =
-      filter-same (λ list. begins_in (λ p. p == start) list && unfinished plan events list) (λ list. waits_from plan start (taken_of events list) && is_live plan events list) (lists_within plan (length events))
-      (nonempty (λ list. (begins_in (λ p. p == start) list && unfinished plan events list) ≡ (waits_from plan start (taken_of events list) && is_live plan events list)) (length plan.stages) 0 (length events) agree
+      filter-same (λ list. begins_in (λ p. p == start) list && unfinished plan events list)
+      (λ list. waits_from plan start (taken_of events list) && is_live plan events list) (lists_within plan (length events))
+      (nonempty (λ list. (begins_in (λ p. p == start) list && unfinished plan events list)
+      ≡ (waits_from plan start (taken_of events list) && is_live plan events list)) (length plan.stages) 0 (length events) agree
       (lists_within plan (length events)) (rising_lists-rising (length plan.stages) 0 (length events) (length events) (omega arith))) where
         agree : (first : Entry) (later : List Entry)
             → ((first.position == start) && (not (is_full plan (stages_of (first ∷ later))) && is_live plan events (first ∷ later)))
             ≡ (((first.position == start) && not (is_full plan (stages_in (taken_of events (first ∷ later))))) && is_live plan events (first ∷ later))
         agree first later =
             sym (and-assoc (first.position == start) (not (is_full plan (stages_of (first ∷ later)))) (is_live plan events (first ∷ later)))
-            ∙ (λ i. ((first.position == start) && not (is_full plan (sym (stages_in-taken_of events (first ∷ later)) i))) && is_live plan events (first ∷ later))
+            ∙ (λ i. ((first.position == start) && not (is_full plan (sym (stages_in-taken_of events (first ∷ later)) i)))
+            && is_live plan events (first ∷ later))
 
   -- The timeouts of a tick from some starts are the lists that wait from the due ones, start by start.
   pub timeouts_at-waiting : (before : Option Moment) (now : Moment) (starts : ℕ → Bool)
-      → filter (begins_in starts) (timeouts_at plan events before now) ≡ flat_map (waiting_at plan events) (filter (due_starts plan events before now starts) (range_with_len 0 (length events)))
+      → filter (begins_in starts) (timeouts_at plan events before now)
+      ≡ flat_map (waiting_at plan events) (filter (due_starts plan events before now starts) (range_with_len 0 (length events)))
   timeouts_at-waiting before now starts =
       timeouts_at-live plan events before now starts
-      ∙ filter-same (λ list. ((is_due (limit_of plan (taken_of events list)) before now && not (is_full plan (stages_of list))) && begins_in starts list) && is_live plan events list)
+      ∙ filter-same (λ list. ((is_due (limit_of plan (taken_of events list)) before now && not (is_full plan (stages_of list)))
+      && begins_in starts list) && is_live plan events list)
       (λ list. begins_in (due_starts plan events before now starts) list && unfinished plan events list) (lists_within plan (length events))
-      (nonempty (λ list. (((is_due (limit_of plan (taken_of events list)) before now && not (is_full plan (stages_of list))) && begins_in starts list) && is_live plan events list) ≡ (begins_in (due_starts plan events before now starts) list && unfinished plan events list))
+      (nonempty (λ list. (((is_due (limit_of plan (taken_of events list)) before now && not (is_full plan (stages_of list)))
+      && begins_in starts list) && is_live plan events list)
+      ≡ (begins_in (due_starts plan events before now starts) list && unfinished plan events list))
       (length plan.stages) 0 (length events)
-      (λ first later. and-moved (is_due (limit_from plan (event_at events first.position)) before now) (not (is_full plan (stages_of (first ∷ later)))) (starts first.position) (is_live plan events (first ∷ later)))
+      (λ first later. and-moved (is_due (limit_from plan (event_at events first.position)) before now)
+      (not (is_full plan (stages_of (first ∷ later)))) (starts first.position) (is_live plan events (first ∷ later)))
       (lists_within plan (length events)) (rising_lists-rising (length plan.stages) 0 (length events) (length events) (omega arith)))
       ∙ by_starts (unfinished plan events) (due_starts plan events before now starts) (length plan.stages) 0 (length events)
       ∙ (λ i. flat_map (λ start. waiting_at-start start i) (filter (due_starts plan events before now starts) (range_with_len 0 (length events))))

@@ -21,7 +21,8 @@ use Rattle.live_laws.proofs.GapLaws.{list_all-push}
 use Rattle.live_laws.proofs.LastLaws.{last_or-each, taken_of-end}
 
 -- one more taken event
-are_in_time-push : (plan : Plan) (taken : List Taken) (next : Taken) → are_in_time plan (taken ++ next ∷ []) ≡ (are_in_time plan taken && comes_in_time plan taken next.event)
+are_in_time-push : (plan : Plan) (taken : List Taken) (next : Taken)
+    → are_in_time plan (taken ++ next ∷ []) ≡ (are_in_time plan taken && comes_in_time plan taken next.event)
 are_in_time-push plan [] next = and-true (comes_in_time plan [] next.event)
 are_in_time-push plan (first ∷ later) next = list_all-push (λ t. is_below_limit (limit_of plan (first ∷ later)) t.event.ts) (first ∷ later) next
 
@@ -30,11 +31,14 @@ crossed a x b w = (λ i. (a && and-true x i) && (b && w)) ∙ and-crossed a x b 
 
 -- a list grows by an entry that may come next
 pub may_grow-push : (plan : Plan) (events : List Event) (list : List Entry) (next : Entry)
-    → may_grow plan events (list ++ next ∷ []) ≡ (may_grow plan events list && (extends plan events list next && comes_in_time plan (taken_of events list) (event_at events next.position)))
+    → may_grow plan events (list ++ next ∷ [])
+    ≡ (may_grow plan events list && (extends plan events list next && comes_in_time plan (taken_of events list) (event_at events next.position)))
 unfolding may_grow
 may_grow-push plan events list next =
-    (λ i. extends_all-append plan events [] list (next ∷ []) i && (ap (are_in_time plan) (taken_of-end events list next) ∙ are_in_time-push plan (taken_of events list) (taken_at events next)) i)
-    ∙ crossed (extends_all plan events [] list) (extends plan events list next) (are_in_time plan (taken_of events list)) (comes_in_time plan (taken_of events list) (event_at events next.position))
+    (λ i. extends_all-append plan events [] list (next ∷ []) i
+    && (ap (are_in_time plan) (taken_of-end events list next) ∙ are_in_time-push plan (taken_of events list) (taken_at events next)) i)
+    ∙ crossed (extends_all plan events [] list) (extends plan events list next) (are_in_time plan (taken_of events list))
+    (comes_in_time plan (taken_of events list) (event_at events next.position))
 
 pub has_entries-push : (list : List Entry) (next : Entry) → has_entries (list ++ next ∷ []) ≡ true
 has_entries-push [] next = refl
@@ -63,7 +67,9 @@ module _ (plan : Plan) (events : List Event) (event : Event) (list : List Entry)
   comes_new = λ i. inside i && comes_after (last_entry list) (last_or-each (λ e. e.position < length events) None list tt among) i
 
   -- The partial lists that end at the new event are those lists with one more entry that waited for its stage and take it.
-  pub is_partial-grow : (stage : ℕ) → is_partial plan (events ++ event ∷ []) (list ++ record { stage = stage; position = length events } ∷ []) ≡ (waits plan events list stage && takes plan (taken_of events list) stage event (length events))
+  pub is_partial-grow : (stage : ℕ)
+      → is_partial plan (events ++ event ∷ []) (list ++ record { stage = stage; position = length events } ∷ [])
+      ≡ (waits plan events list stage && takes plan (taken_of events list) stage event (length events))
   unfolding takes waits is_partial
   is_partial-grow stage =
       let next : Entry = record { stage = stage; position = length events } in
@@ -74,4 +80,5 @@ module _ (plan : Plan) (events : List Event) (event : Event) (list : List Entry)
       && fits plan (taken_of-append events (event ∷ []) list among i) stage (at_new i) (length events))
       && gap_holds-append plan events (event ∷ []) list among stage (length events) (omega arith) i)
       && comes_in_time plan (taken_of-append events (event ∷ []) list among i) (at_new i)))
-      ∙ regrouped (may_grow plan events list) (may_follow plan (stages_of list) stage) (fits plan taken stage event (length events)) (gap_holds plan events list stage (length events)) (comes_in_time plan taken event)
+      ∙ regrouped (may_grow plan events list) (may_follow plan (stages_of list) stage) (fits plan taken stage event (length events))
+      (gap_holds plan events list stage (length events)) (comes_in_time plan taken event)

@@ -29,7 +29,8 @@ module _ {X : Type 0} (test : X → Bool) where
     split (inr p) later = or_right (test y) (list_any test xs) (later p)
 
 -- a partial list that waits for some stage is live
-pub is_live-waits : (plan : Plan) (events : List Event) (list : List Entry) (stage : ℕ) → is_partial plan events list ≡ true → waits plan events list stage ≡ true → is_live plan events list ≡ true
+pub is_live-waits : (plan : Plan) (events : List Event) (list : List Entry) (stage : ℕ) → is_partial plan events list ≡ true
+    → waits plan events list stage ≡ true → is_live plan events list ≡ true
 unfolding is_live waits
 is_live-waits plan events list stage partial h =
     let open_for = (and_parts (may_grow plan events list) (is_open_for plan events list stage) h).1 in
@@ -39,7 +40,8 @@ is_live-waits plan events list stage partial h =
     (Contains-range 0 (length plan.stages) stage (omega arith) (omega (arith, stage_known plan (stages_of list) stage follow))) open_for)
 
 -- A live list is a partial match, and waits for some stage.
-pub waits-is_live : (plan : Plan) (events : List Event) (list : List Entry) → is_live plan events list ≡ true → (is_partial plan events list ≡ true) × ((stage : ℕ) × (waits plan events list stage ≡ true))
+pub waits-is_live : (plan : Plan) (events : List Event) (list : List Entry) → is_live plan events list ≡ true → (is_partial plan events list ≡ true)
+    × ((stage : ℕ) × (waits plan events list stage ≡ true))
 unfolding is_live waits
 waits-is_live plan events list h =
     let both = and_parts (is_partial plan events list) (list_any (is_open_for plan events list) (range_with_len 0 (length plan.stages))) h in

@@ -23,7 +23,8 @@ position_known : (events : List Event) (list : List Entry) (position : ℕ) → 
 position_known events list position h = ltb-true position (length events) (and_parts (nat_lt position (length events)) _ h).0
 
 -- entries that come one after another
-extends_all-rising : (plan : Plan) (events : List Event) (list next : List Entry) (from : ℕ) → ((position : ℕ) → comes_later events list position ≡ true → from ≤ position)
+extends_all-rising : (plan : Plan) (events : List Event) (list next : List Entry) (from : ℕ)
+    → ((position : ℕ) → comes_later events list position ≡ true → from ≤ position)
     → extends_all plan events list next ≡ true → IsRising (length plan.stages) from (length events) next
 extends_all-rising plan events list [] from above h = tt
 extends_all-rising plan events list (e ∷ next) from above h =
@@ -42,7 +43,8 @@ extends_all-rising plan events list (e ∷ next) from above h =
           let lt : e.position < position = ltb-true e.position position (sym (ap (λ o. option_map_or (λ (last : Entry). nat_lt last.position position) o true) (last_or-push None list e)) ∙ after) in
           omega (arith, lt)
 
-pub may_grow-rising : (plan : Plan) (events : List Event) (list : List Entry) → may_grow plan events list ≡ true → IsRising (length plan.stages) 0 (length events) list
+pub may_grow-rising : (plan : Plan) (events : List Event) (list : List Entry) → may_grow plan events list ≡ true
+    → IsRising (length plan.stages) 0 (length events) list
 unfolding may_grow
 may_grow-rising plan events list h = extends_all-rising plan events [] list 0 (λ position k. omega arith) (and_parts (extends_all plan events [] list) _ h).0
 
@@ -50,7 +52,8 @@ pub is_partial-may_grow : (plan : Plan) (events : List Event) (list : List Entry
 unfolding is_partial
 is_partial-may_grow plan events list h = (and_parts (has_entries list) (may_grow plan events list) h).1
 
-pub is_partial-rising : (plan : Plan) (events : List Event) (list : List Entry) → is_partial plan events list ≡ true → IsRisingList (length plan.stages) 0 (length events) list
+pub is_partial-rising : (plan : Plan) (events : List Event) (list : List Entry) → is_partial plan events list ≡ true
+    → IsRisingList (length plan.stages) 0 (length events) list
 unfolding is_partial
 is_partial-rising plan events [] h = let no : false ≡ true = h in absurd cc
 is_partial-rising plan events (first ∷ later) h = may_grow-rising plan events (first ∷ later) h
@@ -68,7 +71,8 @@ rising_length stages from to [] le h = omega (arith, le)
 rising_length stages from to (e ∷ list) le h = let rest = rising_length stages (e.position + 1) to list (omega (arith, h.2)) h.3 in omega (arith, rest, h.1)
 
 pub may_grow-length : (plan : Plan) (events : List Event) (list : List Entry) → may_grow plan events list ≡ true → length list ≤ length events
-may_grow-length plan events list h = let short = rising_length (length plan.stages) 0 (length events) list (omega arith) (may_grow-rising plan events list h) in omega (arith, short)
+may_grow-length plan events list h =
+    let short = rising_length (length plan.stages) 0 (length events) list (omega arith) (may_grow-rising plan events list h) in omega (arith, short)
 
 -- the list is another over the events, with one more entry right after them
 abbrev pub IsGrown : List Event → List Entry → Type 0
@@ -79,11 +83,20 @@ nothing_behind stages from to [] le h = refl
 nothing_behind stages from to (e ∷ list) le h = absurd (omega (arith, le, h.1, h.2))
 
 -- A rising list over one more event is either over those before it, or ends at the new one.
-pub rising_split : (stages from : ℕ) (events : List Event) (list : List Entry) → IsRising stages from (length events + 1) list → AreAmong events list ⊎ IsGrown events list
+pub rising_split : (stages from : ℕ) (events : List Event) (list : List Entry) → IsRising stages from (length events + 1) list → AreAmong events list
+    ⊎ IsGrown events list
 rising_split stages from events [] h = inl tt
 rising_split stages from events (e ∷ later) h =
     placed (eq-or-lt_of_le (omega (arith, h.2))) (rising_split stages (e.position + 1) events later h.3) where
-      placed : (e.position ≡ length events) ⊎ (e.position < length events) → AreAmong events later ⊎ IsGrown events later → AreAmong events (e ∷ later) ⊎ IsGrown events (e ∷ later)
-      placed (inl is) _ = inr ([], e.stage, (λ i. record { stage = e.stage; position = is i } ∷ nothing_behind stages (e.position + 1) (length events + 1) later (omega (arith, is)) h.3 i), tt)
+      placed : (e.position ≡ length events) ⊎ (e.position < length events) → AreAmong events later ⊎ IsGrown events later
+          → AreAmong events (e ∷ later) ⊎ IsGrown events (e ∷ later)
+      placed (inl is) _ =
+          inr (
+            [],
+            e.stage,
+            (λ i. record { stage = e.stage; position = is i } ∷ nothing_behind stages (e.position + 1) (length events + 1) later
+                (omega (arith, is)) h.3 i),
+            tt,
+          )
       placed (inr lt) (inl among) = inl (lt, among)
       placed (inr lt) (inr (list, stage, is, among)) = inr (e ∷ list, stage, (λ i. e ∷ is i), (lt, among))

@@ -1,4 +1,5 @@
--- The kept items of a tick, from the starts that earlier kept matches have left open: all timeouts from there, and of the matches from there those that no kept match of the same tick kills.
+-- The kept items of a tick, from the starts that earlier kept matches have left open: all timeouts from there, and of the matches from there those
+-- that no kept match of the same tick kills.
 use Rattle.std.proofs.Common.{◌≡◌, refl, sym, ◌∙◌, ap, Bool, true, false, not, ◌||◌, List, [], ◌∷◌, ◌++◌, map}
 use Rattle.std.specs.Prelude.{filter, Option}
 use Rattle.cep_event.specs.declared.event.Event.{Event}
@@ -25,37 +26,48 @@ none_killed skip (Match match ∷ items) = none_killed skip items
 none_killed skip (Timeout other ∷ items) = none_killed skip items
 
 -- a list is alive by its start
-pub alive-begins : (skip : Skip) (before : List Item) (events : List Event) (list : List Entry) → not (is_killed skip before (taken_of events list)) ≡ begins_in (is_start_alive skip before) list
+pub alive-begins : (skip : Skip) (before : List Item) (events : List Event) (list : List Entry)
+    → not (is_killed skip before (taken_of events list)) ≡ begins_in (is_start_alive skip before) list
 alive-begins skip before events [] = ap not (none_killed skip before)
 alive-begins skip before events (first ∷ later) = ap not (is_killed-start skip before (taken_at events first) (taken_of events later))
 
 -- the items of lists, and those that are alive
-alive_items : (skip : Skip) (before : List Item) (events : List Event) (item : List Taken → Item) → ((list : List Taken) → list_in (item list) ≡ list) → (lists : List (List Entry))
-    → filter (is_alive skip before) (map (λ list. item (taken_of events list)) lists) ≡ map (λ list. item (taken_of events list)) (filter (begins_in (is_start_alive skip before)) lists)
+alive_items : (skip : Skip) (before : List Item) (events : List Event) (item : List Taken → Item)
+    → ((list : List Taken) → list_in (item list) ≡ list) → (lists : List (List Entry))
+    → filter (is_alive skip before) (map (λ list. item (taken_of events list)) lists)
+    ≡ map (λ list. item (taken_of events list)) (filter (begins_in (is_start_alive skip before)) lists)
 alive_items skip before events item same lists =
     filter-map (is_alive skip before) (λ list. item (taken_of events list)) lists
-    ∙ ap (λ t. map (λ list. item (taken_of events list)) (filter t lists)) (λ i list. (ap (λ l. not (is_killed skip before l)) (same (taken_of events list)) ∙ alive-begins skip before events list) i)
+    ∙ ap (λ t. map (λ list. item (taken_of events list)) (filter t lists))
+    (λ i list. (ap (λ l. not (is_killed skip before l)) (same (taken_of events list)) ∙ alive-begins skip before events list) i)
 
 -- timeouts before matches kill none of them
-timeouts_kill_none : (skip : Skip) (before : List Item) (events : List Event) (lists : List (List Entry)) (list : List Taken) → is_killed skip (before ++ map (λ l. Timeout (taken_of events l)) lists) list ≡ is_killed skip before list
-timeouts_kill_none skip before events lists list = is_killed-append skip before (map (λ l. Timeout (taken_of events l)) lists) list ∙ ap (λ b. is_killed skip before list || b) (none lists) ∙ or-false (is_killed skip before list) where
-  none : (ls : List (List Entry)) → is_killed skip (map (λ l. Timeout (taken_of events l)) ls) list ≡ false
-  none [] = refl
-  none (l ∷ ls) = none ls
+timeouts_kill_none : (skip : Skip) (before : List Item) (events : List Event) (lists : List (List Entry)) (list : List Taken)
+    → is_killed skip (before ++ map (λ l. Timeout (taken_of events l)) lists) list ≡ is_killed skip before list
+timeouts_kill_none skip before events lists list = is_killed-append skip before (map (λ l. Timeout (taken_of events l)) lists) list
+    ∙ ap (λ b. is_killed skip before list || b) (none lists) ∙ or-false (is_killed skip before list) where
+      none : (ls : List (List Entry)) → is_killed skip (map (λ l. Timeout (taken_of events l)) ls) list ≡ false
+      none [] = refl
+      none (l ∷ ls) = none ls
 
-  or-false : (b : Bool) → (b || false) ≡ b
-  or-false true = refl
-  or-false false = refl
+      or-false : (b : Bool) → (b || false) ≡ b
+      or-false true = refl
+      or-false false = refl
 
 module _ (plan : Plan) (events : List Event) (last : Option Moment) (before : List Item) where
-  pub timeouts_kept : (now : Moment) → kept_after plan.skip before (map (λ l. Timeout (taken_of events l)) (timeouts_at plan events last now)) ≡ map (λ l. Timeout (taken_of events l)) (filter (begins_in (is_start_alive plan.skip before)) (timeouts_at plan events last now))
-  timeouts_kept now = kept_after-timeouts plan.skip before (taken_of events) (timeouts_at plan events last now) ∙ alive_items plan.skip before events Timeout (λ list. refl) (timeouts_at plan events last now)
+  pub timeouts_kept : (now : Moment)
+      → kept_after plan.skip before (map (λ l. Timeout (taken_of events l)) (timeouts_at plan events last now))
+      ≡ map (λ l. Timeout (taken_of events l)) (filter (begins_in (is_start_alive plan.skip before)) (timeouts_at plan events last now))
+  timeouts_kept now = kept_after-timeouts plan.skip before (taken_of events) (timeouts_at plan events last now)
+      ∙ alive_items plan.skip before events Timeout (λ list. refl) (timeouts_at plan events last now)
 
   -- The kept items of an event's tick.
   pub kept_tick : (event : Event)
       → kept_after plan.skip before (items_from plan events last (event_tick event))
-      ≡ map (λ list. Timeout (taken_of events list)) (filter (begins_in (is_start_alive plan.skip before)) (timeouts_at plan events last (time_of (event_tick event))))
-      ++ kept_after plan.skip before (map (λ list. Match (taken_of (events ++ event ∷ []) list)) (filter (begins_in (is_start_alive plan.skip before)) (matches_at plan events event)))
+      ≡ map (λ list. Timeout (taken_of events list))
+      (filter (begins_in (is_start_alive plan.skip before)) (timeouts_at plan events last (time_of (event_tick event))))
+      ++ kept_after plan.skip before (map (λ list. Match (taken_of (events ++ event ∷ []) list))
+      (filter (begins_in (is_start_alive plan.skip before)) (matches_at plan events event)))
   kept_tick event =
       let now = time_of (event_tick event) in
       let timeouts = map (λ l. Timeout (taken_of events l)) (timeouts_at plan events last now) in
@@ -64,6 +76,8 @@ module _ (plan : Plan) (events : List Event) (last : Option Moment) (before : Li
       kept_after-append plan.skip before timeouts matches
       ∙ (λ i. timeouts_kept now i ++ kept_after plan.skip (before ++ timeouts_kept now i) matches)
       ∙ ap (λ r. shown ++ r)
-      (same_killed plan.skip (before ++ shown) before matches (timeouts_kill_none plan.skip before events (filter (begins_in (is_start_alive plan.skip before)) (timeouts_at plan events last now)))
-      ∙ sym (ap (λ b. kept_after plan.skip b (filter (is_alive plan.skip before) matches)) (sym (append-nil before)) ∙ kept_after-alive plan.skip before [] matches ∙ ap (λ b. kept_after plan.skip b matches) (append-nil before))
+      (same_killed plan.skip (before ++ shown) before matches
+      (timeouts_kill_none plan.skip before events (filter (begins_in (is_start_alive plan.skip before)) (timeouts_at plan events last now)))
+      ∙ sym (ap (λ b. kept_after plan.skip b (filter (is_alive plan.skip before) matches)) (sym (append-nil before))
+      ∙ kept_after-alive plan.skip before [] matches ∙ ap (λ b. kept_after plan.skip b matches) (append-nil before))
       ∙ ap (kept_after plan.skip before) (alive_items plan.skip before (events ++ event ∷ []) Match (λ list. refl) (matches_at plan events event)))

@@ -22,12 +22,15 @@ use Rattle.live_laws.proofs.BoolLaws.{and-true}
 use Rattle.live_laws.proofs.MemberLaws.{Each-from_contains, filter-same}
 use Rattle.live_laws.proofs.AnswerLaws.{grown_from_end}
 
-within_limit : (plan : Plan) (events : List Event) (list : List Entry) (next : Entry) → comes_in_time plan (taken_of events list) (event_at events next.position) ≡ is_below_limit (limit_of plan (taken_of events (list ++ next ∷ []))) (event_at events next.position).ts
+within_limit : (plan : Plan) (events : List Event) (list : List Entry) (next : Entry)
+    → comes_in_time plan (taken_of events list) (event_at events next.position)
+    ≡ is_below_limit (limit_of plan (taken_of events (list ++ next ∷ []))) (event_at events next.position).ts
 within_limit plan events [] next = refl
 within_limit plan events (first ∷ later) next = refl
 
 -- a partial list that ends at the event
-is_partial-in_time : (plan : Plan) (events : List Event) (event : Event) (list : List Entry) → is_partial plan (events ++ event ∷ []) list ≡ true → IsGrown events list
+is_partial-in_time : (plan : Plan) (events : List Event) (event : Event) (list : List Entry) → is_partial plan (events ++ event ∷ []) list ≡ true
+    → IsGrown events list
     → is_below_limit (limit_of plan (taken_of (events ++ event ∷ []) list)) event.ts ≡ true
 is_partial-in_time plan events event list partial (before, stage, is, among) =
     let next : Entry = record { stage = stage; position = length events } in
@@ -35,9 +38,11 @@ is_partial-in_time plan events event list partial (before, stage, is, among) =
     let grown : (may_grow plan whole before && (extends plan whole before next && comes_in_time plan (taken_of whole before) (event_at whole next.position))) ≡ true =
     sym (may_grow-push plan whole before next) ∙ sym (ap (may_grow plan whole) is) ∙ is_partial-may_grow plan whole list partial in
     let within = (and_parts (extends plan whole before next) (comes_in_time plan (taken_of whole before) (event_at whole next.position)) (and_parts (may_grow plan whole before) _ grown).1).1 in
-    (λ i. is_below_limit (limit_of plan (taken_of whole (is i))) (sym (get_or_push events event no_event (length events) refl) i).ts) ∙ sym (within_limit plan whole before next) ∙ within
+    (λ i. is_below_limit (limit_of plan (taken_of whole (is i))) (sym (get_or_push events event no_event (length events) refl) i).ts)
+    ∙ sym (within_limit plan whole before next) ∙ within
 
-pub matches_at-in_time : (plan : Plan) (events : List Event) (event : Event) (list : List Entry) → Contains (matches_at plan events event) list → is_below_limit (limit_of plan (taken_of (events ++ event ∷ []) list)) event.ts ≡ true
+pub matches_at-in_time : (plan : Plan) (events : List Event) (event : Event) (list : List Entry) → Contains (matches_at plan events event) list
+    → is_below_limit (limit_of plan (taken_of (events ++ event ∷ []) list)) event.ts ≡ true
 unfolding is_match
 matches_at-in_time plan events event list q =
     let test : List Entry → Bool = λ l. ends_at (length events) l && (is_partial plan (events ++ event ∷ []) l && is_full plan (stages_of l)) in
@@ -52,17 +57,22 @@ pub matches_at-late : (plan : Plan) (events : List Event) (event : Event) (start
     → filter (begins_in (λ p. starts p && not (late p))) (matches_at plan events event) ≡ filter (begins_in starts) (matches_at plan events event)
 matches_at-late plan events event starts late over =
     filter-same (begins_in (λ p. starts p && not (late p))) (begins_in starts) (matches_at plan events event)
-    (Each-from_contains (λ list. begins_in (λ p. starts p && not (late p)) list ≡ begins_in starts list) (matches_at plan events event) (λ list q. early list (matches_at-in_time plan events event list q))) where
-      decided : (first : Entry) (b : Bool) → late first.position ≡ b → is_below_limit (limit_from plan (event_at (events ++ event ∷ []) first.position)) event.ts ≡ true → (starts first.position && not b) ≡ starts first.position
+    (Each-from_contains (λ list. begins_in (λ p. starts p && not (late p)) list ≡ begins_in starts list) (matches_at plan events event)
+    (λ list q. early list (matches_at-in_time plan events event list q))) where
+      decided : (first : Entry) (b : Bool) → late first.position ≡ b
+          → is_below_limit (limit_from plan (event_at (events ++ event ∷ []) first.position)) event.ts ≡ true
+          → (starts first.position && not b) ≡ starts first.position
       decided first true is below = let no : true ≡ false = sym below ∙ over first is in absurd cc
       decided first false is below = and-true (starts first.position)
 
-      early : (list : List Entry) → is_below_limit (limit_of plan (taken_of (events ++ event ∷ []) list)) event.ts ≡ true → begins_in (λ p. starts p && not (late p)) list ≡ begins_in starts list
+      early : (list : List Entry) → is_below_limit (limit_of plan (taken_of (events ++ event ∷ []) list)) event.ts ≡ true
+          → begins_in (λ p. starts p && not (late p)) list ≡ begins_in starts list
       early [] below = refl
       early (first ∷ later) below = decided first (late first.position) refl below
 
 -- Where the time doesn't fall, those that had time left and aren't due have time left now.
-pub is_time_left-due : (limit : Option ℤ) (last now : Moment) → ((time : ℤ) → has_reached last time ≡ true → has_reached now time ≡ true) → (is_time_left limit (Some last) && not (is_due limit (Some last) now)) ≡ is_time_left limit (Some now)
+pub is_time_left-due : (limit : Option ℤ) (last now : Moment) → ((time : ℤ) → has_reached last time ≡ true → has_reached now time ≡ true)
+    → (is_time_left limit (Some last) && not (is_due limit (Some last) now)) ≡ is_time_left limit (Some now)
 is_time_left-due limit last now later = by_tests (is_limit_reached limit last) (is_limit_reached limit now) (stays limit) where
   stays : (l : Option ℤ) → is_limit_reached l last ≡ true → is_limit_reached l now ≡ true
   stays None h = h

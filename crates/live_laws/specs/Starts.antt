@@ -1,4 +1,5 @@
--- The starts of lists: the positions of their first events. Which starts are still open, which are due, and the lists that wait from one start. These words are this project's own.
+-- The starts of lists: the positions of their first events. Which starts are still open, which are due, and the lists that wait from one start. These
+-- words are this project's own.
 use Rattle.std.specs.Prelude.{ℕ, Bool, true, false, not, ◌&&◌, ◌==◌, nat_le, nat_lt, ⊤, ◌≡◌, List, [], ◌∷◌, length, filter, Option, Some, None}
 use Rattle.std.specs.List.{list_any, AllByRecursion as Each}
 use Rattle.std.specs.Ordering.{is_eq}

@@ -1,4 +1,5 @@
--- What one more event does to a list that waits for a stage. Each test sees the events taken before, the event and its position, and no others. These tests are this project's own; that they say the same as the meaning of whole lists is proved.
+-- What one more event does to a list that waits for a stage. Each test sees the events taken before, the event and its position, and no others. These
+-- tests are this project's own; that they say the same as the meaning of whole lists is proved.
 use Rattle.std.specs.Prelude.{ℕ, Bool, true, ◌&&◌, List, [], ◌∷◌}
 use Rattle.std.specs.Option.{option_map_or}
 use Rattle.cep_event.specs.declared.event.Event.{Event}
@@ -11,7 +12,8 @@ use Rattle.cep_plan.specs.Limit.{limit_from, is_below_limit}
 
 -- The taken events go on waiting for the stage where the event at the position isn't taken. The empty list waits for ever.
 unfoldable pub survives : Plan → List Taken → ℕ → Event → ℕ → Bool
-survives plan taken stage event position = option_map_or (λ last. spares plan taken last.stage stage (comes_directly position last) event) (last_taken taken) true
+survives plan taken stage event position =
+    option_map_or (λ last. spares plan taken last.stage stage (comes_directly position last) event) (last_taken taken) true
 
 -- The event is below the time limit that the first taken event sets. The event itself is the first one where none is taken.
 abbrev pub comes_in_time : Plan → List Taken → Event → Bool

@@ -1,4 +1,5 @@
--- What a label says of the way to its list: it begins with the label of each front of the list, and with no label of another list that ends where the front ends. Later events change nothing of it.
+-- What a label says of the way to its list: it begins with the label of each front of the list, and with no label of another list that ends where the
+-- front ends. Later events change nothing of it.
 use Rattle.std.proofs.Common.{◌≡◌, ◌≢◌, refl, sym, ◌∙◌, ap, ℕ, ◌+◌, ◌≤◌, ◌<◌, arith, Bool, true, false, cond, List, [], ◌∷◌, ◌++◌, length, append_assoc, zero, suc, append-nil, Some, None}
 use Rattle.std.specs.List.{last_or, count_by, range_with_len}
 use Rattle.nfa_compile.specs.Automaton.{is_chaining, mode_behind}
@@ -50,7 +51,8 @@ mark_from-append plan events list mark (x ∷ xs) ys =
     ∙ ap (λ l. mark_from plan events l (mark_from plan events list mark (x ∷ xs)) ys) (append_assoc list (x ∷ []) xs)
 
 -- the mark of a list with one more entry
-pub mark_of-push : (plan : Plan) (events : List Event) (list : List Entry) (next : Entry) → mark_of plan events (list ++ next ∷ []) ≡ mark_behind plan events list (mark_of plan events list) next
+pub mark_of-push : (plan : Plan) (events : List Event) (list : List Entry) (next : Entry)
+    → mark_of plan events (list ++ next ∷ []) ≡ mark_behind plan events list (mark_of plan events list) next
 mark_of-push plan events list next = mark_from-append plan events [] no_mark list (next ∷ [])
 
 -- the label of a list begins that of the list with more entries
@@ -60,7 +62,8 @@ label_of-grows plan events list later =
     (rest.0, ap (λ (m : Mark). m.label) (mark_from-append plan events [] no_mark list later) ∙ rest.1)
 
 -- The label of a list with more entries begins with the label of the list, and with that of no other partial match that ends at the same entry.
-pub front_begins : (plan : Plan) (events : List Event) (list later : List Entry) → begins (label_of plan events list) (label_of plan events (list ++ later)) ≡ true
+pub front_begins : (plan : Plan) (events : List Event) (list later : List Entry)
+    → begins (label_of plan events list) (label_of plan events (list ++ later)) ≡ true
 front_begins plan events list later =
     let grows = label_of-grows plan events list later in
     ap (begins (label_of plan events list)) grows.1 ∙ begins-front (label_of plan events list) grows.0
@@ -73,7 +76,8 @@ other_begins_not plan events other list later end apart po eo pl el =
 
 -- ---- later events
 
-pub counts-same : (p q : ℕ → Bool) (from n : ℕ) → ((k : ℕ) → from ≤ k → k < from + n → p k ≡ q k) → count_by p (range_with_len from n) ≡ count_by q (range_with_len from n)
+pub counts-same : (p q : ℕ → Bool) (from n : ℕ) → ((k : ℕ) → from ≤ k → k < from + n → p k ≡ q k)
+    → count_by p (range_with_len from n) ≡ count_by q (range_with_len from n)
 counts-same p q from zero same = refl
 counts-same p q from (suc n) same =
     let later = counts-same p q (from + 1) n (λ k above below. same k (omega (arith, above)) (omega (arith, below))) in
@@ -86,9 +90,11 @@ earlier_takes-append : (plan : Plan) (events more : List Event) (list : List Ent
 unfolding earlier_takes
 earlier_takes-append plan events more list next among lt =
     counts-same _ _ 0 next.position (λ k above below.
-    is_partial-append plan events more (list ++ record { stage = next.stage; position = k } ∷ []) (AreAmong-push events list (record { stage = next.stage; position = k }) among (omega (arith, below, lt))))
+    is_partial-append plan events more (list ++ record { stage = next.stage; position = k } ∷ [])
+    (AreAmong-push events list (record { stage = next.stage; position = k }) among (omega (arith, below, lt))))
 
-mark_behind-append : (plan : Plan) (events more : List Event) (list : List Entry) (mark : Mark) (next : Entry) → AreAmong events list → next.position < length events
+mark_behind-append : (plan : Plan) (events more : List Event) (list : List Entry) (mark : Mark) (next : Entry) → AreAmong events list
+    → next.position < length events
     → mark_behind plan (events ++ more) list mark next ≡ mark_behind plan events list mark next
 unfolding mark_behind
 mark_behind-append plan events more list mark next among lt =
@@ -97,7 +103,13 @@ mark_behind-append plan events more list mark next among lt =
       mark_with n =
           cond (stays plan (stages_of list) next.stage)
           (record { label = mark.label; next = mark.next + branches_in plan (stages_of list) })
-          (record { label = mark.label ++ (mark.next + branches_below plan (stages_of list) next.stage) ∷ cond (is_chaining (mode_behind plan (last_or None (stages_of list)) next.stage)) [] (n ∷ []); next = 0 })
+          (record {
+            label =
+                mark.label
+                ++ (mark.next + branches_below plan (stages_of list) next.stage) ∷ cond
+                (is_chaining (mode_behind plan (last_or None (stages_of list)) next.stage)) [] (n ∷ []);
+            next = 0;
+          })
 
 mark_from-later : (plan : Plan) (events more : List Event) (list : List Entry) (mark : Mark) (later : List Entry) → AreAmong events list → AreAmong events later
     → mark_from plan (events ++ more) list mark later ≡ mark_from plan events list mark later
@@ -107,5 +119,6 @@ mark_from-later plan events more list mark (next ∷ later) among rest =
     ∙ mark_from-later plan events more (list ++ next ∷ []) (mark_behind plan events list mark next) later (AreAmong-push events list next among rest.0) rest.1
 
 -- the mark of a list stays when more events come
-pub mark_of-append : (plan : Plan) (events more : List Event) (list : List Entry) → AreAmong events list → mark_of plan (events ++ more) list ≡ mark_of plan events list
+pub mark_of-append : (plan : Plan) (events more : List Event) (list : List Entry) → AreAmong events list
+    → mark_of plan (events ++ more) list ≡ mark_of plan events list
 mark_of-append plan events more list among = mark_from-later plan events more [] no_mark list tt among

@@ -16,7 +16,8 @@ split test x xs = sum_by-append (λ y. cond (test y) 1 0) (x ∷ []) xs
 nothing-more : (k : ℕ) → k ≡ (0 + 0) + k
 nothing-more k = omega arith
 
-module _ (follows apart : ℕ → Bool) (wait : ℕ → Wait) (named : (stage : ℕ) → (wait stage).stage ≡ stage) (told : (stage : ℕ) → branches (wait stage) ≡ apart stage) where
+module _ (follows apart : ℕ → Bool) (wait : ℕ → Wait) (named : (stage : ℕ) → (wait stage).stage ≡ stage)
+    (told : (stage : ℕ) → branches (wait stage) ≡ apart stage) where
   abbrev both : ℕ → Bool
   both stage = follows stage && apart stage
 
@@ -25,13 +26,15 @@ module _ (follows apart : ℕ → Bool) (wait : ℕ → Wait) (named : (stage : 
   all-counted from zero = refl
   all-counted from (suc n) = elim (cases_Bool (follows from)) [
     | inl here ↦
-        ap (λ (b : Bool). count_by branches (map wait (cond b (from ∷ filter follows (range_with_len (from + 1) n)) (filter follows (range_with_len (from + 1) n))))) here
+        ap (λ (b : Bool). count_by branches (map wait
+        (cond b (from ∷ filter follows (range_with_len (from + 1) n)) (filter follows (range_with_len (from + 1) n))))) here
         ∙ split branches (wait from) (map wait (filter follows (range_with_len (from + 1) n)))
         ∙ (λ i. (0 + cond (told from i) 1 0) + all-counted (from + 1) n i)
         ∙ ap (λ (b : Bool). (0 + cond (b && apart from) 1 0) + count_by both (range_with_len (from + 1) n)) (sym here)
         ∙ sym (split both from (range_with_len (from + 1) n))
     | inr none ↦
-        ap (λ (b : Bool). count_by branches (map wait (cond b (from ∷ filter follows (range_with_len (from + 1) n)) (filter follows (range_with_len (from + 1) n))))) none
+        ap (λ (b : Bool). count_by branches (map wait
+        (cond b (from ∷ filter follows (range_with_len (from + 1) n)) (filter follows (range_with_len (from + 1) n))))) none
         ∙ all-counted (from + 1) n
         ∙ nothing-more (count_by both (range_with_len (from + 1) n))
         ∙ ap (λ (b : Bool). (0 + cond (b && apart from) 1 0) + count_by both (range_with_len (from + 1) n)) (sym none)
@@ -48,13 +51,18 @@ module _ (follows apart : ℕ → Bool) (wait : ℕ → Wait) (named : (stage : 
     rest = map wait (filter follows (range_with_len (from + 1) n))
 
     -- the range up to a later stage begins with this one
-    begun : (stage : ℕ) → from + 1 ≤ stage → count_by both (range_with_len from (stage - from)) ≡ (0 + cond (both from) 1 0) + count_by both (range_with_len (from + 1) (stage - (from + 1)))
+    begun : (stage : ℕ) → from + 1 ≤ stage
+        → count_by both (range_with_len from (stage - from))
+        ≡ (0 + cond (both from) 1 0) + count_by both (range_with_len (from + 1) (stage - (from + 1)))
     begun stage le =
         let size : stage - from ≡ suc (stage - (from + 1)) = omega (arith, le) in
         ap (λ k. count_by both (range_with_len from k)) size ∙ split both from (range_with_len (from + 1) (stage - (from + 1)))
 
-    by_test : (b : Bool) → follows from ≡ b → (front : List Wait) → map wait (cond (follows from) (from ∷ filter follows (range_with_len (from + 1) n)) (filter follows (range_with_len (from + 1) n))) ≡ front ++ w ∷ back
-        → ((front : List Wait) → rest ≡ front ++ w ∷ back → (from + 1 ≤ w.stage) × (count_by branches front ≡ count_by both (range_with_len (from + 1) (w.stage - (from + 1)))))
+    by_test : (b : Bool) → follows from ≡ b → (front : List Wait)
+        → map wait (cond (follows from) (from ∷ filter follows (range_with_len (from + 1) n)) (filter follows (range_with_len (from + 1) n))) ≡ front
+        ++ w ∷ back
+        → ((front : List Wait) → rest ≡ front ++ w ∷ back → (from + 1 ≤ w.stage)
+        × (count_by branches front ≡ count_by both (range_with_len (from + 1) (w.stage - (from + 1)))))
         → (from ≤ w.stage) × (count_by branches front ≡ count_by both (range_with_len from (w.stage - from)))
     by_test true here [] h more =
         let whole : wait from ∷ rest ≡ w ∷ back = ap (λ (b : Bool). map wait (cond b (from ∷ filter follows (range_with_len (from + 1) n)) (filter follows (range_with_len (from + 1) n)))) (sym here) ∙ h in
@@ -83,9 +91,11 @@ branches_in-waits plan so_far =
     all-counted (may_follow plan so_far) (λ stage. not (stays plan so_far stage)) (wait_for plan so_far) (λ stage. refl) (λ stage. refl) 0 (length plan.stages)
 
 -- and as many in front of a wait as there are stages below its own that do
-pub branches_below-waits : (plan : Plan) (so_far : List ℕ) (front back : List Wait) (wait : Wait) → waits_of plan so_far ≡ front ++ wait ∷ back → count_by branches front ≡ branches_below plan so_far wait.stage
+pub branches_below-waits : (plan : Plan) (so_far : List ℕ) (front back : List Wait) (wait : Wait) → waits_of plan so_far ≡ front ++ wait ∷ back
+    → count_by branches front ≡ branches_below plan so_far wait.stage
 unfolding branches_below waits_of wait_for
 branches_below-waits plan so_far front back wait is =
     let size : wait.stage - 0 ≡ wait.stage = omega arith in
-    (front-counted (may_follow plan so_far) (λ stage. not (stays plan so_far stage)) (wait_for plan so_far) (λ stage. refl) (λ stage. refl) 0 (length plan.stages) front back wait is).1
+    (front-counted (may_follow plan so_far) (λ stage. not (stays plan so_far stage)) (wait_for plan so_far) (λ stage. refl) (λ stage. refl) 0
+    (length plan.stages) front back wait is).1
     ∙ ap (λ k. count_by (branches_off plan so_far) (range_with_len 0 k)) size

@@ -1,4 +1,6 @@
--- The labels of lists. Where a list goes on in the same chain, its label stays; else the label gets a digit more for the stage, and where all events may be let pass, one more for the event. After the Dewey numbers of the SIGMOD 2008 paper of Agrawal, Diao, Gyllstrom and Immerman; which digits there are is this project's own.
+-- The labels of lists. Where a list goes on in the same chain, its label stays; else the label gets a digit more for the stage, and where all events
+-- may be let pass, one more for the event. After the Dewey numbers of the SIGMOD 2008 paper of Agrawal, Diao, Gyllstrom and Immerman; which digits
+-- there are is this project's own.
 use Rattle.std.specs.Prelude.{ℕ, ◌+◌, Bool, not, ◌&&◌, if◌then◌else◌, List, [], ◌∷◌, ◌++◌, length, None}
 use Rattle.std.specs.List.{last_or, count_by, range_with_len}
 use Rattle.cep_event.specs.declared.event.Event.{Event}

@@ -1,4 +1,5 @@
--- What a run over the automaton may rely on: at the number of a list's state it finds what the list waits for, and a take leads to the number of the longer list's state.
+-- What a run over the automaton may rely on: at the number of a list's state it finds what the list waits for, and a take leads to the number of the
+-- longer list's state.
 use Rattle.std.proofs.Common.{◌≡◌, refl, sym, ◌∙◌, ap, ℕ, zero, suc, ◌+◌, ◌-◌, ◌≤◌, ◌<◌, min, arith, Bool, true, false, ◌&&◌, ◌||◌, cond, ◌⊎◌, inl, inr, List, [], ◌∷◌, ◌++◌, length, map, nat_lt}
 use Rattle.std.specs.Prelude.{Option, Some, None, ◌==◌, filter, slice_get}
 use Rattle.std.specs.List.{last_or, list_any, range_with_len, AllByRecursion as Each}
@@ -30,7 +31,8 @@ start_waits plan = refl
 -- ---- the waits for one stage
 
 any_cond : (f : ℕ → Wait) (stage : ℕ) (b : Bool) (x : ℕ) (rest : List ℕ)
-    → list_any (λ w. w.stage == stage) (map f (cond b (x ∷ rest) rest)) ≡ cond b (((f x).stage == stage) || list_any (λ w. w.stage == stage) (map f rest)) (list_any (λ w. w.stage == stage) (map f rest))
+    → list_any (λ w. w.stage == stage) (map f (cond b (x ∷ rest) rest))
+    ≡ cond b (((f x).stage == stage) || list_any (λ w. w.stage == stage) (map f rest)) (list_any (λ w. w.stage == stage) (map f rest))
 any_cond f stage true x rest = refl
 any_cond f stage false x rest = refl
 
@@ -45,17 +47,20 @@ any_kept : (f : ℕ → Wait) (test : ℕ → Bool) (stage : ℕ) → ((t : ℕ)
 any_kept f test stage same [] = refl
 any_kept f test stage same (x ∷ xs) =
     any_cond f stage (test x) x (filter test xs)
-    ∙ ap (λ e. cond (test x) ((e == stage) || list_any (λ w. w.stage == stage) (map f (filter test xs))) (list_any (λ w. w.stage == stage) (map f (filter test xs)))) (same x)
+    ∙ ap (λ e. cond (test x) ((e == stage) || list_any (λ w. w.stage == stage) (map f (filter test xs)))
+    (list_any (λ w. w.stage == stage) (map f (filter test xs)))) (same x)
     ∙ any_step (test x) (x == stage) (list_any (λ y. y == stage) xs) (test stage) (list_any (λ w. w.stage == stage) (map f (filter test xs)))
     (λ e. ap test (eqb-true x stage e)) (any_kept f test stage same xs)
 
 any_range : (from n stage : ℕ) → from ≤ stage → stage < from + n → list_any (λ x. x == stage) (range_with_len from n) ≡ true
 any_range from zero stage h k = absurd (omega (arith, h, k))
 any_range from (suc n) stage h k = by_order (cases_order from stage) (any_range (from + 1) n stage) where
-  by_order : (from ≡ stage) ⊎ ((from < stage) ⊎ (stage < from)) → (from + 1 ≤ stage → stage < from + 1 + n → list_any (λ x. x == stage) (range_with_len (from + 1) n) ≡ true)
+  by_order : (from ≡ stage) ⊎ ((from < stage) ⊎ (stage < from))
+      → (from + 1 ≤ stage → stage < from + 1 + n → list_any (λ x. x == stage) (range_with_len (from + 1) n) ≡ true)
       → ((from == stage) || list_any (λ x. x == stage) (range_with_len (from + 1) n)) ≡ true
   by_order (inl e) later = or_left (from == stage) (list_any (λ x. x == stage) (range_with_len (from + 1) n)) (eq-eqb from stage e)
-  by_order (inr (inl l)) later = or_right (from == stage) (list_any (λ x. x == stage) (range_with_len (from + 1) n)) (later (omega (arith, l)) (omega (arith, k)))
+  by_order (inr (inl l)) later =
+      or_right (from == stage) (list_any (λ x. x == stage) (range_with_len (from + 1) n)) (later (omega (arith, l)) (omega (arith, k)))
   by_order (inr (inr l)) later = absurd (omega (arith, l, h))
 
 stage_of_wait : (plan : Plan) (so_far : List ℕ) (stage : ℕ) → (wait_for plan so_far stage).stage ≡ stage
@@ -64,19 +69,24 @@ stage_of_wait plan so_far stage = refl
 
 inside : (plan : Plan) (so_far : List ℕ) (stage : ℕ) → may_follow plan so_far stage ≡ true → stage < length plan.stages
 unfolding may_follow
-inside plan so_far stage h = ltb-true stage (length plan.stages) (and_parts (nat_lt stage (length plan.stages)) (may_follow_last plan so_far stage (last_or None so_far)) h).0
+inside plan so_far stage h =
+    ltb-true stage (length plan.stages) (and_parts (nat_lt stage (length plan.stages)) (may_follow_last plan so_far stage (last_or None so_far)) h).0
 
 -- A list has a wait for a stage just where the stage may follow.
 pub wait_where_follows : (plan : Plan) (so_far : List ℕ) (stage : ℕ) → list_any (λ w. w.stage == stage) (waits_of plan so_far) ≡ may_follow plan so_far stage
 unfolding waits_of
 wait_where_follows plan so_far stage =
-    any_kept (wait_for plan so_far) (may_follow plan so_far) stage (stage_of_wait plan so_far) (range_with_len 0 (length plan.stages)) ∙ by_test (may_follow plan so_far stage) refl where
+    any_kept (wait_for plan so_far) (may_follow plan so_far) stage (stage_of_wait plan so_far) (range_with_len 0 (length plan.stages))
+    ∙ by_test (may_follow plan so_far stage) refl where
       by_test : (b : Bool) → may_follow plan so_far stage ≡ b → (list_any (λ x. x == stage) (range_with_len 0 (length plan.stages)) && b) ≡ b
-      by_test true is = and_from (list_any (λ x. x == stage) (range_with_len 0 (length plan.stages))) true (let below = inside plan so_far stage is in any_range 0 (length plan.stages) stage (omega arith) (omega (arith, below))) refl
+      by_test true is =
+          and_from (list_any (λ x. x == stage) (range_with_len 0 (length plan.stages))) true
+          (let below = inside plan so_far stage is in any_range 0 (length plan.stages) stage (omega arith) (omega (arith, below))) refl
       by_test false is = and_right (list_any (λ x. x == stage) (range_with_len 0 (length plan.stages))) false refl
 
 -- Each wait of a list is the one for its stage, which may follow.
-pub each_wait : (plan : Plan) (so_far : List ℕ) → Each (λ w. (may_follow plan so_far w.stage ≡ true) × (w ≡ wait_for plan so_far w.stage)) (waits_of plan so_far)
+pub each_wait : (plan : Plan) (so_far : List ℕ)
+    → Each (λ w. (may_follow plan so_far w.stage ≡ true) × (w ≡ wait_for plan so_far w.stage)) (waits_of plan so_far)
 unfolding waits_of
 each_wait plan so_far = all (range_with_len 0 (length plan.stages)) where
   one : (stage : ℕ) (b : Bool) (rest : List ℕ) → may_follow plan so_far stage ≡ b
@@ -87,16 +97,20 @@ each_wait plan so_far = all (range_with_len 0 (length plan.stages)) where
       ((ap (may_follow plan so_far) same ∙ is, ap (wait_for plan so_far) (sym same)), later)
   one stage false rest is later = later
 
-  all : (xs : List ℕ) → Each (λ w. (may_follow plan so_far w.stage ≡ true) × (w ≡ wait_for plan so_far w.stage)) (map (wait_for plan so_far) (filter (may_follow plan so_far) xs))
+  all : (xs : List ℕ)
+      → Each (λ w. (may_follow plan so_far w.stage ≡ true) × (w ≡ wait_for plan so_far w.stage))
+      (map (wait_for plan so_far) (filter (may_follow plan so_far) xs))
   all [] = tt
   all (x ∷ xs) = one x (may_follow plan so_far x) (filter (may_follow plan so_far) xs) refl (all xs)
 
 -- The contiguity of a wait, and the negations between, are those of the step from the last stage to that of the wait.
-pub mode_of_wait : (plan : Plan) (so_far : List ℕ) (last stage : ℕ) → last_or None so_far ≡ Some last → (wait_for plan so_far stage).mode ≡ contiguity_of plan last stage
+pub mode_of_wait : (plan : Plan) (so_far : List ℕ) (last stage : ℕ) → last_or None so_far ≡ Some last
+    → (wait_for plan so_far stage).mode ≡ contiguity_of plan last stage
 unfolding wait_for
 mode_of_wait plan so_far last stage ends = ap (λ o. mode_behind plan o stage) ends
 
-pub negations_of_wait : (plan : Plan) (so_far : List ℕ) (last stage : ℕ) → last_or None so_far ≡ Some last → (wait_for plan so_far stage).negations ≡ negations_between plan last stage
+pub negations_of_wait : (plan : Plan) (so_far : List ℕ) (last stage : ℕ) → last_or None so_far ≡ Some last
+    → (wait_for plan so_far stage).negations ≡ negations_between plan last stage
 unfolding wait_for
 negations_of_wait plan so_far last stage ends = ap (λ o. negations_behind plan o stage) ends
 
@@ -117,7 +131,8 @@ number_after_take plan so_far stage = ap (λ o. option_map_or (λ state. number_
 module _ (plan : Plan) (fit : IsCompilable plan) (so_far : List ℕ) (order : IsInOrder plan so_far) where
   -- The state of a list that isn't empty stands at its number.
   pub took_of_last : (last : ℕ) → last_or None so_far ≡ Some last
-      → slice_get (automaton_of plan).took (states_before plan last + (count_in plan so_far last - 1)) ≡ Some (took_of plan (record { stage = last; count = count_in plan so_far last }))
+      → slice_get (automaton_of plan).took (states_before plan last + (count_in plan so_far last - 1))
+      ≡ Some (took_of plan (record { stage = last; count = count_in plan so_far last }))
   took_of_last last ends =
       let some = some_event plan fit so_far order last ends in
       let back : 1 + (count_in plan so_far last - 1) ≡ count_in plan so_far last = omega (arith, some) in
@@ -128,7 +143,8 @@ module _ (plan : Plan) (fit : IsCompilable plan) (so_far : List ℕ) (order : Is
         below n g h = omega (arith, h)
 
   waits_at_last : (last : ℕ) → last_or None so_far ≡ Some last
-      → waits_in (automaton_of plan) (states_before plan last + count_in plan so_far last) ≡ waits_of plan (stages_at (record { stage = last; count = count_in plan so_far last }))
+      → waits_in (automaton_of plan) (states_before plan last + count_in plan so_far last)
+      ≡ waits_of plan (stages_at (record { stage = last; count = count_in plan so_far last }))
   waits_at_last last ends =
       let some = some_event plan fit so_far order last ends in
       let number : states_before plan last + count_in plan so_far last ≡ suc (states_before plan last + (count_in plan so_far last - 1)) = omega (arith, some) in
@@ -141,12 +157,14 @@ module _ (plan : Plan) (fit : IsCompilable plan) (so_far : List ℕ) (order : Is
   unfolding state_of
   waits_in_automaton = cases (last_or None so_far) refl ∙ waits_of_state plan fit so_far order where
     cases : (o : Option ℕ) → last_or None so_far ≡ o
-        → waits_in (automaton_of plan) (option_map_or (λ state. number_of_state plan state.stage state.count) (state_behind plan so_far o) 0) ≡ waits_of plan (stages_behind (state_behind plan so_far o))
+        → waits_in (automaton_of plan) (option_map_or (λ state. number_of_state plan state.stage state.count) (state_behind plan so_far o) 0)
+        ≡ waits_of plan (stages_behind (state_behind plan so_far o))
     cases None is = start_waits plan
     cases (Some last) is = waits_at_last last is
 
   -- At the number of its state the automaton has whether the list is full.
-  pub full_in_automaton : (last : ℕ) → last_or None so_far ≡ Some last → (took_of plan (record { stage = last; count = count_in plan so_far last })).full ≡ is_full plan so_far
+  pub full_in_automaton : (last : ℕ) → last_or None so_far ≡ Some last
+      → (took_of plan (record { stage = last; count = count_in plan so_far last })).full ≡ is_full plan so_far
   unfolding took_of state_of
   full_in_automaton last ends = ap (λ o. is_full plan (stages_behind (state_behind plan so_far o))) (sym ends) ∙ is_full_state plan fit so_far order
 
@@ -157,5 +175,7 @@ module _ (plan : Plan) (fit : IsCompilable plan) (events : List Event) (list : L
   pub waits_of_list : waits_in (automaton_of plan) (number_of_list plan (stages_of list)) ≡ waits_of plan (stages_of list)
   waits_of_list = waits_in_automaton plan fit (stages_of list) (order-grows plan events list grows)
 
-  pub followers_of_list : (stage : ℕ) → list_any (λ w. w.stage == stage) (waits_in (automaton_of plan) (number_of_list plan (stages_of list))) ≡ may_follow plan (stages_of list) stage
+  pub followers_of_list : (stage : ℕ)
+      → list_any (λ w. w.stage == stage) (waits_in (automaton_of plan) (number_of_list plan (stages_of list)))
+      ≡ may_follow plan (stages_of list) stage
   followers_of_list stage = ap (list_any (λ w. w.stage == stage)) waits_of_list ∙ wait_where_follows plan (stages_of list) stage

@@ -1,4 +1,5 @@
--- Plans that are compiled, from facts in other words: a bound on stages and negations together, and stages that are tested and states that are counted by other functions.
+-- Plans that are compiled, from facts in other words: a bound on stages and negations together, and stages that are tested and states that are
+-- counted by other functions.
 use Rattle.std.proofs.Common.{◌≡◌, refl, subst, ◌+◌, ◌≤◌, ℕ, arith, Bool, true, List, [], ◌∷◌, length}
 use Rattle.std.specs.List.{list_all, sum_by}
 use Rattle.std.proofs.lemmas.Bool.{and_parts, and_from}

@@ -29,15 +29,19 @@ count_for-push stage so_far next =
 
 pub count_for-first : (stage next : ℕ) (so_far : List ℕ) → count_for stage (next ∷ so_far) ≡ counted (next == stage) (count_for stage so_far)
 count_for-first stage next so_far =
-    sym (length-filter (λ s. s == stage) (next ∷ so_far)) ∙ by_test (next == stage) ∙ ap (counted (next == stage)) (length-filter (λ s. s == stage) so_far) where
-      by_test : (b : Bool) → length (cond b (next ∷ filter (λ s. s == stage) so_far) (filter (λ s. s == stage) so_far)) ≡ counted b (length (filter (λ s. s == stage) so_far))
+    sym (length-filter (λ s. s == stage) (next ∷ so_far)) ∙ by_test (next == stage)
+    ∙ ap (counted (next == stage)) (length-filter (λ s. s == stage) so_far) where
+      by_test : (b : Bool)
+          → length (cond b (next ∷ filter (λ s. s == stage) so_far) (filter (λ s. s == stage) so_far))
+          ≡ counted b (length (filter (λ s. s == stage) so_far))
       by_test true = omega arith
       by_test false = refl
 
 pub count_same : (stage count : ℕ) → count_for stage (replicate count stage) ≡ count
 count_same stage zero = refl
 count_same stage (suc count) =
-    count_for-first stage stage (replicate count stage) ∙ ap (λ b. counted b (count_for stage (replicate count stage))) (eq-eqb stage stage refl) ∙ ap (λ n. n + 1) (count_same stage count) ∙ next count where
+    count_for-first stage stage (replicate count stage) ∙ ap (λ b. counted b (count_for stage (replicate count stage))) (eq-eqb stage stage refl)
+    ∙ ap (λ n. n + 1) (count_same stage count) ∙ next count where
       next : (n : ℕ) → n + 1 ≡ suc n
       next n = omega arith
 
@@ -55,6 +59,7 @@ last_same stage (suc count) h = later None count where
   later o (suc n) = later (Some stage) n
 
 -- whether the lists of a state are full
-pub full_at : (plan : Plan) (state : State) → 1 ≤ state.count → is_full plan (stages_at state) ≡ (has_enough plan (stages_at state) state.stage && all_optional plan (state.stage + 1) (length plan.stages))
+pub full_at : (plan : Plan) (state : State) → 1 ≤ state.count
+    → is_full plan (stages_at state) ≡ (has_enough plan (stages_at state) state.stage && all_optional plan (state.stage + 1) (length plan.stages))
 unfolding is_full
 full_at plan state some_event = ap (λ o. option_map_or (is_full_at plan (stages_at state)) o false) (last_same state.stage state.count some_event)

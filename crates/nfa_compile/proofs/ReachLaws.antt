@@ -43,7 +43,8 @@ order-nil plan = record {
 -- a stage that follows stands no earlier than the last one
 pub not_earlier : (plan : Plan) (so_far : List ℕ) (next last : ℕ) → may_follow_last plan so_far next (Some last) ≡ true → last ≤ next
 not_earlier plan so_far next last h = by_test (next == last) refl h where
-  by_test : (b : Bool) → (next == last) ≡ b → cond b (has_room plan so_far next) (nat_lt last next && has_enough plan so_far last && all_optional plan (last + 1) next) ≡ true → last ≤ next
+  by_test : (b : Bool) → (next == last) ≡ b
+      → cond b (has_room plan so_far next) (nat_lt last next && has_enough plan so_far last && all_optional plan (last + 1) next) ≡ true → last ≤ next
   by_test true is h = let same = eqb-true next last is in omega (arith, same)
   by_test false is h =
       let first = and_parts (nat_lt last next && has_enough plan so_far last) (all_optional plan (last + 1) next) h in
@@ -51,7 +52,8 @@ not_earlier plan so_far next last h = by_test (next == last) refl h where
       omega (arith, less)
 
 -- behind the last stage so far, and so behind what follows it, no later one was met
-none_behind : (plan : Plan) (so_far : List ℕ) (next : ℕ) (last : Option ℕ) → IsInOrder plan so_far → last_or None so_far ≡ last → may_follow_last plan so_far next last ≡ true → (later : ℕ) → next < later → count_for later so_far ≡ 0
+none_behind : (plan : Plan) (so_far : List ℕ) (next : ℕ) (last : Option ℕ) → IsInOrder plan so_far → last_or None so_far ≡ last
+    → may_follow_last plan so_far next last ≡ true → (later : ℕ) → next < later → count_for later so_far ≡ 0
 none_behind plan so_far next None before is h later above = ap (count_for later) (none_last so_far is)
 none_behind plan so_far next (Some last) before is h later above =
     let reached = not_earlier plan so_far next last h in
@@ -84,13 +86,15 @@ module _ (plan : Plan) (events : List Event) where
   stages_of-push [] next = refl
   stages_of-push (e ∷ list) next = λ i. e.stage ∷ stages_of-push list next i
 
-  order-all : (before later : List Entry) → IsInOrder plan (stages_of before) → extends_all plan events before later ≡ true → IsInOrder plan (stages_of before ++ stages_of later)
+  order-all : (before later : List Entry) → IsInOrder plan (stages_of before) → extends_all plan events before later ≡ true
+      → IsInOrder plan (stages_of before ++ stages_of later)
   order-all before [] order h = subst (IsInOrder plan) (sym (append-nil (stages_of before))) order
   order-all before (next ∷ later) order h =
       let both = and_parts (extends plan events before next) (extends_all plan events (before ++ next ∷ []) later) h in
       let pushed = subst (IsInOrder plan) (sym (stages_of-push before next)) (order-push plan (stages_of before) next.stage order (follows_first before next both.0)) in
       subst (IsInOrder plan) (joined before next later) (order-all (before ++ next ∷ []) later pushed both.1) where
-        joined : (before : List Entry) (next : Entry) (later : List Entry) → stages_of (before ++ next ∷ []) ++ stages_of later ≡ stages_of before ++ stages_of (next ∷ later)
+        joined : (before : List Entry) (next : Entry) (later : List Entry)
+            → stages_of (before ++ next ∷ []) ++ stages_of later ≡ stages_of before ++ stages_of (next ∷ later)
         joined [] next later = refl
         joined (e ∷ before) next later = λ i. e.stage ∷ joined before next later i
 

@@ -11,7 +11,8 @@ use Rattle.nfa_compile.specs.Automaton.{took_of}
 -- one more count of a stage
 pub counts_more : (plan : Plan) (stage n : ℕ)
     → map (took_of plan) (map (λ count. record { stage = stage; count = count }) (range_with_len 1 (n + 1)))
-    ≡ map (took_of plan) (map (λ count. record { stage = stage; count = count }) (range_with_len 1 n)) ++ took_of plan (record { stage = stage; count = n + 1 }) ∷ []
+    ≡ map (took_of plan) (map (λ count. record { stage = stage; count = count }) (range_with_len 1 n))
+    ++ took_of plan (record { stage = stage; count = n + 1 }) ∷ []
 counts_more plan stage n =
     let make : ℕ → State = λ count. record { stage = stage; count = count } in
     ap (map (took_of plan)) (map-range_with_len_more make 1 n (n + 1) (omega arith))
@@ -27,7 +28,9 @@ flat_range_more f from n = ap (λ m. flat_map f (range_with_len from m)) one ∙
   stepped from zero = append-nil (f from) ∙ ap f (let same : from ≡ from + 0 = omega arith in same)
   stepped from (suc n) =
       ap (λ xs. f from ++ xs) (stepped (from + 1) n) ∙ append_assoc' from n where
-        append_assoc' : (from n : ℕ) → f from ++ (flat_map f (range_with_len (from + 1) n) ++ f (from + 1 + n)) ≡ (f from ++ flat_map f (range_with_len (from + 1) n)) ++ f (from + suc n)
+        append_assoc' : (from n : ℕ)
+            → f from ++ (flat_map f (range_with_len (from + 1) n) ++ f (from + 1 + n)) ≡ (f from ++ flat_map f (range_with_len (from + 1) n))
+            ++ f (from + suc n)
         append_assoc' from n =
             sym (append_assoc (f from) (flat_map f (range_with_len (from + 1) n)) (f (from + 1 + n)))
             ∙ ap (λ m. (f from ++ flat_map f (range_with_len (from + 1) n)) ++ f m) (let same : from + 1 + n ≡ from + suc n = omega arith in same)
@@ -40,5 +43,6 @@ pub stages_more : (plan : Plan) (n : ℕ)
     → map (took_of plan) (flat_map (states_at plan) (range_with_len 0 (n + 1)))
     ≡ map (took_of plan) (flat_map (states_at plan) (range_with_len 0 n)) ++ map (took_of plan) (states_at plan n)
 stages_more plan n =
-    ap (map (took_of plan)) (flat_range_more (states_at plan) 0 n ∙ ap (λ m. flat_map (states_at plan) (range_with_len 0 n) ++ states_at plan m) (let same : 0 + n ≡ n = omega arith in same))
+    ap (map (took_of plan)) (flat_range_more (states_at plan) 0 n
+    ∙ ap (λ m. flat_map (states_at plan) (range_with_len 0 n) ++ states_at plan m) (let same : 0 + n ≡ n = omega arith in same))
     ∙ map-append (took_of plan) (flat_map (states_at plan) (range_with_len 0 n)) (states_at plan n)

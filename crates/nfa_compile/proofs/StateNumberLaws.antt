@@ -28,10 +28,12 @@ get_map f (x ∷ xs) (suc i) = get_map f xs i
 get_range : {X : Type 0} (f : ℕ → X) (from n i : ℕ) → i < n → slice_get (map f (range_with_len from n)) i ≡ Some (f (from + i))
 get_range f from zero i h = absurd (omega (arith, h))
 get_range f from (suc n) zero h = ap (λ m. Some (f m)) (let same : from ≡ from + 0 = omega arith in same)
-get_range f from (suc n) (suc i) h = get_range f (from + 1) n i (omega (arith, h)) ∙ ap (λ m. Some (f m)) (let same : from + 1 + i ≡ from + suc i = omega arith in same)
+get_range f from (suc n) (suc i) h = get_range f (from + 1) n i (omega (arith, h))
+    ∙ ap (λ m. Some (f m)) (let same : from + 1 + i ≡ from + suc i = omega arith in same)
 
 -- the i-th of what the j-th number of a range gives stands behind all that the numbers before it give
-get_flat : {X : Type 0} (f : ℕ → List X) (from n j i k : ℕ) → j < n → i < length (f (from + j)) → k ≡ length (flat_map f (range_with_len from j)) + i → slice_get (flat_map f (range_with_len from n)) k ≡ slice_get (f (from + j)) i
+get_flat : {X : Type 0} (f : ℕ → List X) (from n j i k : ℕ) → j < n → i < length (f (from + j)) → k ≡ length (flat_map f (range_with_len from j)) + i
+    → slice_get (flat_map f (range_with_len from n)) k ≡ slice_get (f (from + j)) i
 get_flat f from zero j i k h l e = absurd (omega (arith, h))
 get_flat f from (suc n) zero i k h l e =
     let here : from + 0 ≡ from = omega arith in

@@ -97,11 +97,13 @@ ends_counted : (so_far : List ℕ) (last : ℕ) → last_or None so_far ≡ Some
 ends_counted [] last h = absurd (cc)
 ends_counted (x ∷ xs) last h = last_counted x xs last h
 
-kept_step : {X : Type 0} (f g : ℕ → X) (b : Bool) (x : ℕ) (rest : List ℕ) → (b ≡ true → f x ≡ g x) → map f rest ≡ map g rest → map f (cond b (x ∷ rest) rest) ≡ map g (cond b (x ∷ rest) rest)
+kept_step : {X : Type 0} (f g : ℕ → X) (b : Bool) (x : ℕ) (rest : List ℕ) → (b ≡ true → f x ≡ g x) → map f rest ≡ map g rest
+    → map f (cond b (x ∷ rest) rest) ≡ map g (cond b (x ∷ rest) rest)
 kept_step f g true x rest here later = λ i. here refl i ∷ later i
 kept_step f g false x rest here later = later
 
-map_kept : {X : Type 0} (f g : ℕ → X) (test : ℕ → Bool) → ((t : ℕ) → test t ≡ true → f t ≡ g t) → (xs : List ℕ) → map f (filter test xs) ≡ map g (filter test xs)
+map_kept : {X : Type 0} (f g : ℕ → X) (test : ℕ → Bool) → ((t : ℕ) → test t ≡ true → f t ≡ g t) → (xs : List ℕ)
+    → map f (filter test xs) ≡ map g (filter test xs)
 map_kept f g test same [] = refl
 map_kept f g test same (x ∷ xs) = kept_step f g (test x) x (filter test xs) (same x) (map_kept f g test same xs)
 
@@ -125,7 +127,8 @@ module _ (plan : Plan) (fit : IsCompilable plan) (so_far : List ℕ) (order : Is
   may_same stage =
       ap (λ b. nat_lt stage (length plan.stages) && b)
       (ap (may_follow_last plan (stages_at at_last) stage) (last_same last (count_in plan so_far last) some_event)
-      ∙ follow_same plan so_far (stages_at at_last) last stage (room_same plan so_far (stages_at at_last) last cut) (enough_same plan so_far (stages_at at_last) last cut fit.bounds)
+      ∙ follow_same plan so_far (stages_at at_last) last stage (room_same plan so_far (stages_at at_last) last cut)
+      (enough_same plan so_far (stages_at at_last) last cut fit.bounds)
       ∙ sym (ap (may_follow_last plan so_far stage) ends))
 
   full_same : is_full plan (stages_at at_last) ≡ is_full plan so_far
@@ -136,7 +139,8 @@ module _ (plan : Plan) (fit : IsCompilable plan) (so_far : List ℕ) (order : Is
       ∙ sym (ap (λ o. option_map_or (is_full_at plan so_far) o false) ends)
 
   -- one more event, where the stage is the last one or a later one
-  count_same_next : (stage : ℕ) → may_follow plan so_far stage ≡ true → count_in plan (stages_at at_last ++ stage ∷ []) stage ≡ count_in plan (so_far ++ stage ∷ []) stage
+  count_same_next : (stage : ℕ) → may_follow plan so_far stage ≡ true
+      → count_in plan (stages_at at_last ++ stage ∷ []) stage ≡ count_in plan (so_far ++ stage ∷ []) stage
   unfolding may_follow
   count_same_next stage follows =
       ap (λ n. min n (greatest_at plan stage)) (one_more (stages_at at_last))
@@ -146,7 +150,9 @@ module _ (plan : Plan) (fit : IsCompilable plan) (so_far : List ℕ) (order : Is
         one_more list = count_for-push stage list stage ∙ ap (λ b. counted b (count_for stage list)) (eq-eqb stage stage refl)
 
         not_before : last ≤ stage
-        not_before = not_earlier plan so_far stage last (subst (λ o. may_follow_last plan so_far stage o ≡ true) ends (and_parts (nat_lt stage (length plan.stages)) (may_follow_last plan so_far stage (last_or None so_far)) follows).1)
+        not_before =
+            not_earlier plan so_far stage last (subst (λ o. may_follow_last plan so_far stage o ≡ true) ends
+            (and_parts (nat_lt stage (length plan.stages)) (may_follow_last plan so_far stage (last_or None so_far)) follows).1)
 
         later : (last == stage) ≡ false → last < stage
         later is = by_order (cases_order last stage) where
@@ -155,8 +161,11 @@ module _ (plan : Plan) (fit : IsCompilable plan) (so_far : List ℕ) (order : Is
           by_order (inr (inl l)) = l
           by_order (inr (inr l)) = omega (arith, l, not_before)
 
-        by_test : (b : Bool) → (last == stage) ≡ b → min (count_for stage (stages_at at_last) + 1) (greatest_at plan stage) ≡ min (count_for stage so_far + 1) (greatest_at plan stage)
-        by_test true is = subst (λ s. min (count_for s (stages_at at_last) + 1) (greatest_at plan s) ≡ min (count_for s so_far + 1) (greatest_at plan s)) (eqb-true last stage is) (omega (arith, cut))
+        by_test : (b : Bool) → (last == stage) ≡ b
+            → min (count_for stage (stages_at at_last) + 1) (greatest_at plan stage) ≡ min (count_for stage so_far + 1) (greatest_at plan stage)
+        by_test true is =
+            subst (λ s. min (count_for s (stages_at at_last) + 1) (greatest_at plan s) ≡ min (count_for s so_far + 1) (greatest_at plan s))
+            (eqb-true last stage is) (omega (arith, cut))
         by_test false is =
             let none = count_other stage last (count_in plan so_far last) is in
             let none_too = order.none_later last stage ends (later is) in
@@ -184,7 +193,9 @@ module _ (plan : Plan) (fit : IsCompilable plan) (so_far : List ℕ) (order : Is
 
 module _ (plan : Plan) (fit : IsCompilable plan) (so_far : List ℕ) (order : IsInOrder plan so_far) where
   -- What holds of the lists of the state holds of the list.
-  by_state : (P : List ℕ → List ℕ → Type 0) → P [] [] → ((last : ℕ) (ends : last_or None so_far ≡ Some last) → P (stages_at (record { stage = last; count = count_in plan so_far last })) so_far) → P (stages_behind (state_of plan so_far)) so_far
+  by_state : (P : List ℕ → List ℕ → Type 0) → P [] []
+      → ((last : ℕ) (ends : last_or None so_far ≡ Some last) → P (stages_at (record { stage = last; count = count_in plan so_far last })) so_far)
+      → P (stages_behind (state_of plan so_far)) so_far
   unfolding state_of
   by_state P first behind = cases (last_or None so_far) refl where
     cases : (o : Option ℕ) → last_or None so_far ≡ o → P (stages_behind (state_behind plan so_far o)) so_far
@@ -197,7 +208,8 @@ module _ (plan : Plan) (fit : IsCompilable plan) (so_far : List ℕ) (order : Is
 
   -- A stage may follow the list just where it may follow the lists of its state.
   pub may_follow_state : (stage : ℕ) → may_follow plan (stages_behind (state_of plan so_far)) stage ≡ may_follow plan so_far stage
-  may_follow_state stage = by_state (λ a b. may_follow plan a stage ≡ may_follow plan b stage) refl (λ last ends. may_same plan fit so_far order last ends stage)
+  may_follow_state stage =
+      by_state (λ a b. may_follow plan a stage ≡ may_follow plan b stage) refl (λ last ends. may_same plan fit so_far order last ends stage)
 
   -- The list is full just where the lists of its state are.
   pub is_full_state : is_full plan (stages_behind (state_of plan so_far)) ≡ is_full plan so_far

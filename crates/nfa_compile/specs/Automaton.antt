@@ -1,4 +1,5 @@
--- The automaton of a plan: its states, and what each of them waits for. It is stated of whole lists: a state waits for the stages that may follow its lists. After the SIGMOD 2008 paper of Agrawal, Diao, Gyllstrom and Immerman in outline; the states are this project's own.
+-- The automaton of a plan: its states, and what each of them waits for. It is stated of whole lists: a state waits for the stages that may follow its
+-- lists. After the SIGMOD 2008 paper of Agrawal, Diao, Gyllstrom and Immerman in outline; the states are this project's own.
 use Rattle.std.specs.Prelude.{ℕ, zero, suc, Bool, true, false, ◌&&◌, ◌==◌, List, [], ◌∷◌, ◌++◌, map, filter, length, slice_get, Option, Some, None}
 use Rattle.std.specs.List.{last_or, range_with_len}
 use Rattle.std.specs.Option.{option_map_or}

@@ -1,4 +1,5 @@
--- States of the automaton. A state is a stage and a number of its events. After the SIGMOD 2008 paper of Agrawal, Diao, Gyllstrom and Immerman in outline; that counts are numbered up to the greatest one is this project's own.
+-- States of the automaton. A state is a stage and a number of its events. After the SIGMOD 2008 paper of Agrawal, Diao, Gyllstrom and Immerman in
+-- outline; that counts are numbered up to the greatest one is this project's own.
 use Rattle.std.specs.Prelude.{◌≡◌, ℕ, ◌+◌, ◌≤◌, min, Bool, true, ◌&&◌, ◌==◌, nat_le, List, [], map, flat_map, length, take, replicate, slice_get, Option, Some, None}
 use Rattle.std.specs.List.{list_all, sum_by, last_or, range_with_len}
 use Rattle.std.specs.Option.{option_map_or, is_none}
@@ -7,7 +8,8 @@ use Rattle.cep_plan.specs.declared.plan.Stage.{Stage}
 use Rattle.cep_plan.specs.Follow.{of_stage, count_for}
 use Rattle.nfa_compile.specs.declared.state.State.{State}
 
--- The greatest count of a stage: how many events it takes at most or, where it has no such number, how many it needs. With more events than it needs a loop without an end stays in its last state.
+-- The greatest count of a stage: how many events it takes at most or, where it has no such number, how many it needs. With more events than it needs
+-- a loop without an end stays in its last state.
 abbrev pub most_within : ℕ → Option ℕ → ℕ
 most_within least None = least
 most_within least (Some greatest) = greatest

@@ -150,7 +150,8 @@ fn add_wait(
     requires reached { IfSome reached (λ s. 1 ≤ s.count) }
     requires passable { passable ≡ all_optional plan.now (first_behind reached) stage }
     requires before { before ≡ states_before plan.now stage }
-    ensures { OnOk result (waits.new ≡ waits.old ++ map (spec.wait_for plan.now (stages_behind reached)) (filter (may_follow plan.now (stages_behind reached)) (stage ∷ []))) }
+    ensures { OnOk result (waits.new ≡ waits.old
+        ++ map (spec.wait_for plan.now (stages_behind reached)) (filter (may_follow plan.now (stages_behind reached)) (stage ∷ []))) }
 {
     if may_come(plan, reached, stage, passable) {
         waits.push(wait_for(alloc, plan, reached, stage, before)?)?;

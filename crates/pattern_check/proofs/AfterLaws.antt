@@ -34,16 +34,19 @@ none_of p (x ∷ xs) (suc k) zero d e h l = first_false (p x) (list_any p (take 
 none_of p (x ∷ xs) (suc k) (suc j) d e h l = none_of p xs k j d (second_false (p x) (list_any p (take k xs)) e) (omega arith) (omega arith)
 
 -- no name stands twice, so each opener is the first of its name
-pub own_place : (openers : List Opener) (k : ℕ) (d : Opener) → k < length openers → twice_stage openers ≡ None → opener_number openers (get_or openers k d).name.text ≡ k
+pub own_place : (openers : List Opener) (k : ℕ) (d : Opener) → k < length openers → twice_stage openers ≡ None
+    → opener_number openers (get_or openers k d).name.text ≡ k
 unfolding twice_stage
 own_place openers k d h e =
     let name = (get_or openers k d).name in
     let kept_there = from_none_at (λ n o. place_if (is_stage (take n openers) o.name.text) o.name.place) 0 openers k d h e in
     let zero_so : 0 + k ≡ k = omega arith in
     let none = subst (λ (n : ℕ). is_stage (take n openers) name.text ≡ false) zero_so (not_broken (is_stage (take (0 + k) openers) name.text) name.place kept_there) in
-    position_or_len_is (λ o. bytes_eq o.name.text name.text) openers k d (omega arith) (λ j l. none_of (λ o. bytes_eq o.name.text name.text) openers k j d none l (omega arith)) (λ _. (bytes_eq-Decides name.text name.text).1 refl)
+    position_or_len_is (λ o. bytes_eq o.name.text name.text) openers k d (omega arith)
+    (λ j l. none_of (λ o. bytes_eq o.name.text name.text) openers k j d none l (omega arith)) (λ _. (bytes_eq-Decides name.text name.text).1 refl)
 
-after_is : (before : List Opener) (o : Opener) (rest : List Opener) → twice_stage (before ++ o ∷ rest) ≡ None → stages_before (before ++ o ∷ rest) o.name.text ≡ count_by is_positive before
+after_is : (before : List Opener) (o : Opener) (rest : List Opener) → twice_stage (before ++ o ∷ rest) ≡ None
+    → stages_before (before ++ o ∷ rest) o.name.text ≡ count_by is_positive before
 after_is before o rest e =
     let long = length-append before (o ∷ rest) in
     let more : length (o ∷ rest) ≡ suc (length rest) = refl in
@@ -52,7 +55,8 @@ after_is before o rest e =
     ap (λ (n : ℕ). count_by is_positive (take n (before ++ o ∷ rest))) here ∙ ap (count_by is_positive) (take_at before (o ∷ rest) (length before) refl)
 
 counted_more : (before : List Opener) (o : Opener) → count_by is_positive (before ++ o ∷ []) ≡ count_by is_positive before + cond (is_positive o) 1 0
-counted_more before o = sum_by-append (λ (x : Opener). cond (is_positive x) 1 0) before (o ∷ []) ∙ (let zero_so : 0 + cond (is_positive o) 1 0 ≡ cond (is_positive o) 1 0 = omega arith in ap (λ (n : ℕ). count_by is_positive before + n) zero_so)
+counted_more before o = sum_by-append (λ (x : Opener). cond (is_positive x) 1 0) before (o ∷ [])
+    ∙ (let zero_so : 0 + cond (is_positive o) 1 0 ≡ cond (is_positive o) 1 0 = omega arith in ap (λ (n : ℕ). count_by is_positive before + n) zero_so)
 
 one_step : (b : Bool) (m n : ℕ) → n ≡ m + cond (not b) 1 0 → m - 1 ≤ n - 1
 one_step b m n e = omega arith
@@ -60,12 +64,16 @@ one_step b m n e = omega arith
 le_so : (m n : ℕ) → m ≤ n → nat_le m n ≡ true
 le_so m n h = grind (arith, nat_tests)
 
-module _ (all : List Opener) (made : Opener → Negation) (behind : (o : Opener) → (made o).after ≡ stages_before all o.name.text - 1) (e : twice_stage all ≡ None) where
-  falls_step : (b : Bool) (o : Opener) (rest : List Opener) (least : ℕ) → nat_le least (made o).after ≡ true → never_falls (made o).after (map made rest) ≡ true → never_falls least (map made rest) ≡ true → never_falls least (map made (cond b (o ∷ rest) rest)) ≡ true
+module _ (all : List Opener) (made : Opener → Negation) (behind : (o : Opener) → (made o).after ≡ stages_before all o.name.text - 1)
+    (e : twice_stage all ≡ None) where
+  falls_step : (b : Bool) (o : Opener) (rest : List Opener) (least : ℕ) → nat_le least (made o).after ≡ true
+      → never_falls (made o).after (map made rest) ≡ true → never_falls least (map made rest) ≡ true
+      → never_falls least (map made (cond b (o ∷ rest) rest)) ≡ true
   falls_step true o rest least here later other = both (nat_le least (made o).after) (never_falls (made o).after (map made rest)) here later
   falls_step false o rest least here later other = other
 
-  pub falls : (rest before : List Opener) → before ++ rest ≡ all → (least : ℕ) → least ≤ count_by is_positive before - 1 → never_falls least (map made (filter (λ o. is_negated o.how) rest)) ≡ true
+  pub falls : (rest before : List Opener) → before ++ rest ≡ all → (least : ℕ) → least ≤ count_by is_positive before - 1
+      → never_falls least (map made (filter (λ o. is_negated o.how) rest)) ≡ true
   falls [] before same least h = refl
   falls (o ∷ rest) before same least h =
       let next : (before ++ o ∷ []) ++ rest ≡ all = append_assoc before (o ∷ []) rest ∙ same in

@@ -49,7 +49,8 @@ from_modifier modifier.Optional e = refl
 from_modifier modifier.Consecutive e = refl
 from_modifier modifier.AllowCombinations e = refl
 
-joined : (a b : Option (ℕ × Option ℕ)) (d : ℕ × Option ℕ) → if_bounds a ≡ true → are_bounds (unwrap_or b d) ≡ true → are_bounds (unwrap_or (or_else a b) d) ≡ true
+joined : (a b : Option (ℕ × Option ℕ)) (d : ℕ × Option ℕ) → if_bounds a ≡ true → are_bounds (unwrap_or b d) ≡ true
+    → are_bounds (unwrap_or (or_else a b) d) ≡ true
 joined None b d e f = f
 joined (Some bounds) b d e f = e
 

@@ -64,10 +64,17 @@ some_made f [] e = absurd (cc)
 some_made f (o ∷ openers) e =
     one_passes is_positive f o openers (ap not (begin_positive o.how (first_so (is_begin o.how) (list_all (λ (x : Opener). not (is_begin x.how)) openers) e)))
 
-both_lengths : {B C : Type 0} (f : Opener → B) (g : Opener → C) (openers : List Opener) → length openers ≤ 64 → length (map f (filter is_positive openers)) + length (map g (filter (λ o. is_negated o.how) openers)) ≤ 64
+both_lengths : {B C : Type 0} (f : Opener → B) (g : Opener → C) (openers : List Opener) → length openers ≤ 64
+    → length (map f (filter is_positive openers)) + length (map g (filter (λ o. is_negated o.how) openers)) ≤ 64
 both_lengths f g openers h =
     let other : (x : Opener) → is_negated x.how ≡ not (is_positive x) = λ x. double (is_negated x.how) in
-    omega (arith, length-map (filter is_positive openers) f, length-map (filter (λ o. is_negated o.how) openers) g, length-filter_both is_positive (λ o. is_negated o.how) other openers)
+    omega (
+      arith,
+      length-map (filter is_positive openers) f,
+      length-map (filter (λ o. is_negated o.how) openers) g,
+      length-filter_both is_positive
+          (λ o. is_negated o.how) other openers,
+    )
   where
     double : (b : Bool) → b ≡ not (not b)
     double true = refl
@@ -85,12 +92,16 @@ limit_kept (Some n) e =
 
 -- ---- skip strategies
 
-stage_found : (openers : List Opener) (name : Name) (n : ℕ) → length (filter is_positive openers) ≡ n → place_if (not (is_positive_one (slice_get openers (opener_number openers name.text)))) name.place ≡ None → nat_lt (stages_before openers name.text) n ≡ true
+stage_found : (openers : List Opener) (name : Name) (n : ℕ) → length (filter is_positive openers) ≡ n
+    → place_if (not (is_positive_one (slice_get openers (opener_number openers name.text)))) name.place ≡ None
+    → nat_lt (stages_before openers name.text) n ≡ true
 stage_found openers name n same e =
     let found = double_not _ (not_broken (not (is_positive_one (slice_get openers (opener_number openers name.text)))) name.place e) in
-    below (stages_before openers name.text) n (subst (λ (m : ℕ). stages_before openers name.text < m) same (found_positive openers (opener_number openers name.text) found))
+    below (stages_before openers name.text) n (subst (λ (m : ℕ). stages_before openers name.text < m) same
+    (found_positive openers (opener_number openers name.text) found))
 
-skip_kept : (openers : List Opener) (s : Option SkipDecl) (n : ℕ) → length (filter is_positive openers) ≡ n → skip_name openers s ≡ None → skips_to_stage n (skip_of openers s) ≡ true
+skip_kept : (openers : List Opener) (s : Option SkipDecl) (n : ℕ) → length (filter is_positive openers) ≡ n → skip_name openers s ≡ None
+    → skips_to_stage n (skip_of openers s) ≡ true
 unfolding skip_name
 skip_kept openers None n same e = refl
 skip_kept openers (Some skip.No) n same e = refl
@@ -119,11 +130,14 @@ states_kept (o ∷ openers) e =
     let same = ap (sum_by states_of) whole in
     omega arith
 
-open_stages : (fields : List Field) (file : File) (o : Opener) → states_up_to (stage_of fields file o).min (stage_of fields file o).max ≤ states_of o ⊎ (is_positive o ≡ false)
+open_stages : (fields : List Field) (file : File) (o : Opener) → states_up_to (stage_of fields file o).min (stage_of fields file o).max ≤ states_of o
+    ⊎ (is_positive o ≡ false)
 unfolding stage_of
 open_stages fields file o = by_case (is_negated o.how)
   where
-    by_case : (b : Bool) → states_up_to (times (bounds_of o.mods).0) (option_map times (bounds_of o.mods).1) ≤ cond b 0 (states_within (bounds_of o.mods)) ⊎ (not b ≡ false)
+    by_case : (b : Bool)
+        → states_up_to (times (bounds_of o.mods).0) (option_map times (bounds_of o.mods).1) ≤ cond b 0 (states_within (bounds_of o.mods))
+        ⊎ (not b ≡ false)
     by_case true = inr refl
     by_case false = inl (fewer_states (bounds_of o.mods))
 
@@ -160,15 +174,23 @@ module _ (fields : List Field) (file : File) (formed : IsWellFormed file) (sound
     some_stage = some_made (stage_of fields file) file.openers formed.begins;
     few_types = omega (arith, formed.few_types, length-map file.types (type_of fields));
     few_stages = both_lengths (stage_of fields file) (negation_of fields file) file.openers (few_stages fields file sound);
-    bounds = all_made is_positive (stage_of fields file) has_bounds file.openers (all_kept bad_times (λ o. has_bounds (stage_of fields file o)) stage_bounds file.openers (kept fields file sound 8 (omega arith)));
-    few_states = le_trans (sum_made is_positive (stage_of fields file) (λ s. states_up_to s.min s.max) states_of (open_stages fields file) file.openers) (states_kept file.openers (kept fields file sound 20 (omega arith)));
+    bounds =
+        all_made is_positive (stage_of fields file) has_bounds file.openers
+        (all_kept bad_times (λ o. has_bounds (stage_of fields file o)) stage_bounds file.openers (kept fields file sound 8 (omega arith)));
+    few_states =
+        le_trans (sum_made is_positive (stage_of fields file) (λ s. states_up_to s.min s.max) states_of (open_stages fields file) file.openers)
+        (states_kept file.openers (kept fields file sound 20 (omega arith)));
     types_of_stages = all_made is_positive (stage_of fields file) (λ s. is_below (length (types_of fields file.types)) s.of) file.openers
-        (all_kept (λ o. unknown_type file.types o.of) (λ o. is_below (length (types_of fields file.types)) (stage_of fields file o).of) stage_type file.openers (kept fields file sound 2 (omega arith)));
+        (all_kept (λ o. unknown_type file.types o.of) (λ o. is_below (length (types_of fields file.types)) (stage_of fields file o).of) stage_type
+        file.openers (kept fields file sound 2 (omega arith)));
     types_of_negations = all_made (λ o. is_negated o.how) (negation_of fields file) (λ n. is_below (length (types_of fields file.types)) n.of) file.openers
-        (all_kept (λ o. unknown_type file.types o.of) (λ o. is_below (length (types_of fields file.types)) (negation_of fields file o).of) negation_type file.openers (kept fields file sound 2 (omega arith)));
+        (all_kept (λ o. unknown_type file.types o.of) (λ o. is_below (length (types_of fields file.types)) (negation_of fields file o).of)
+        negation_type file.openers (kept fields file sound 2 (omega arith)));
     after = falls file.openers (negation_of fields file) (behind_is fields file) (kept fields file sound 3 (omega arith)) file.openers [] refl 0 (omega arith);
     afters = all_made (λ o. is_negated o.how) (negation_of fields file) (λ n. nat_lt n.after (length (stages_of fields file))) file.openers
-        (all_of (λ o. nat_lt (negation_of fields file o).after (length (stages_of fields file))) (afters_known file.openers (negation_of fields file) (behind_is fields file) (kept fields file sound 3 (omega arith)) (length (stages_of fields file)) stage_count
+        (all_of (λ o. nat_lt (negation_of fields file o).after (length (stages_of fields file)))
+        (afters_known file.openers (negation_of fields file) (behind_is fields file) (kept fields file sound 3 (omega arith))
+        (length (stages_of fields file)) stage_count
         (some_made (stage_of fields file) file.openers formed.begins)) file.openers);
     limit = limit_kept file.within (kept fields file sound 17 (omega arith));
     skips = skip_kept file.openers file.skip (length (stages_of fields file)) stage_count (kept fields file sound 18 (omega arith));

@@ -33,14 +33,17 @@ rest_keeps judge rest h = record {
 }
 
 -- each element keeps the rules, and has the form
-pub all_keep : {A : Type 0} (judge : MentionRule → A → Option ℕ) (form p : A → Bool) → ((x : A) → form x ≡ true → Keeps (λ r. judge r x) → p x ≡ true) → (xs : List A) → list_all form xs ≡ true → Keeps (λ r. first_some (judge r) xs) → list_all p xs ≡ true
+pub all_keep : {A : Type 0} (judge : MentionRule → A → Option ℕ) (form p : A → Bool)
+    → ((x : A) → form x ≡ true → Keeps (λ r. judge r x) → p x ≡ true) → (xs : List A) → list_all form xs ≡ true
+    → Keeps (λ r. first_some (judge r) xs) → list_all p xs ≡ true
 all_keep judge form p each [] good h = refl
 all_keep judge form p each (x ∷ xs) good h =
     both (p x) (list_all p xs)
     (each x (left_of (form x) (list_all form xs) good) (first_keeps (λ r. judge r x) (λ r. first_some (judge r) xs) h))
     (all_keep judge form p each xs (right_of (form x) (list_all form xs) good) (rest_keeps (λ r. judge r x) (λ r. first_some (judge r) xs) h))
 
-pub keeps_at : {A : Type 0} (judge : MentionRule → ℕ → A → Option ℕ) (xs : List A) (k : ℕ) (d : A) → k < length xs → Keeps (λ r. first_from (judge r) 0 xs) → Keeps (λ r. judge r k (get_or xs k d))
+pub keeps_at : {A : Type 0} (judge : MentionRule → ℕ → A → Option ℕ) (xs : List A) (k : ℕ) (d : A) → k < length xs
+    → Keeps (λ r. first_from (judge r) 0 xs) → Keeps (λ r. judge r k (get_or xs k d))
 keeps_at judge xs k d h keeps =
     let zero_so : 0 + k ≡ k = omega arith in
     subst (λ (n : ℕ). Keeps (λ r. judge r n (get_or xs k d))) zero_so (record {

@@ -35,19 +35,23 @@ pub known_among : (known : List Field) (name : List ℕ) → is_known known name
 known_among [] name = refl
 known_among (f ∷ known) name = (λ i. same_text f.name name i || known_among known name i)
 
-name_step : (b c : Bool) (known : List Field) (f : Field) → b ≡ c → map (λ x. x.name) (cond b known (known ++ f ∷ [])) ≡ cond c (map (λ x. x.name) known) (map (λ x. x.name) known ++ f.name ∷ [])
+name_step : (b c : Bool) (known : List Field) (f : Field) → b ≡ c
+    → map (λ x. x.name) (cond b known (known ++ f ∷ [])) ≡ cond c (map (λ x. x.name) known) (map (λ x. x.name) known ++ f.name ∷ [])
 name_step true c known f e = ap (λ x. cond x (map (λ x. x.name) known) (map (λ x. x.name) known ++ f.name ∷ [])) e
 name_step false c known f e = map-append (λ x. x.name) known (f ∷ []) ∙ ap (λ x. cond x (map (λ x. x.name) known) (map (λ x. x.name) known ++ f.name ∷ [])) e
 
 module _ (fields : List Field) where
-  names_of_type : (ds : List FieldDecl) (known : List Field) → map (λ f. f.name) (fold with_field known ds) ≡ more_names (map (λ f. f.name) known) (fields_of fields ds)
+  names_of_type : (ds : List FieldDecl) (known : List Field)
+      → map (λ f. f.name) (fold with_field known ds) ≡ more_names (map (λ f. f.name) known) (fields_of fields ds)
   names_of_type [] known = refl
   names_of_type (d ∷ ds) known =
       names_of_type ds (with_field known d)
       ∙ ap (λ names. more_names names (fields_of fields ds))
-      (name_step (is_known known d.name.text) (is_among (map (λ f. f.name) known) d.name.text) known (record { name = d.name.text; number = length known; kind = d.kind }) (known_among known d.name.text))
+      (name_step (is_known known d.name.text) (is_among (map (λ f. f.name) known) d.name.text) known
+      (record { name = d.name.text; number = length known; kind = d.kind }) (known_among known d.name.text))
 
-  pub names_known : (types : List TypeDecl) (known : List Field) → map (λ f. f.name) (more_known known types) ≡ more_names (map (λ f. f.name) known) (all_fields (types_of fields types))
+  pub names_known : (types : List TypeDecl) (known : List Field)
+      → map (λ f. f.name) (more_known known types) ≡ more_names (map (λ f. f.name) known) (all_fields (types_of fields types))
   names_known [] known = refl
   names_known (d ∷ types) known =
       names_known types (with_fields known d.fields)
@@ -86,7 +90,8 @@ counted_more : (known : List Field) (n : ℕ) (f : Field) → f.number ≡ n + l
 counted_more [] n f e h = (omega (arith, e), tt)
 counted_more (g ∷ known) n f e h = (h.0, counted_more known (suc n) f (omega (arith, e)) h.1)
 
-counted_step : (b : Bool) (known : List Field) (name : List ℕ) (kind : Kind) → Counted 0 known → Counted 0 (cond b known (known ++ record { name = name; number = length known; kind = kind } ∷ []))
+counted_step : (b : Bool) (known : List Field) (name : List ℕ) (kind : Kind) → Counted 0 known
+    → Counted 0 (cond b known (known ++ record { name = name; number = length known; kind = kind } ∷ []))
 counted_step true known name kind h = h
 counted_step false known name kind h = counted_more known 0 (record { name = name; number = length known; kind = kind }) (omega arith) h
 
@@ -98,17 +103,20 @@ pub counted_known : (types : List TypeDecl) (known : List Field) → Counted 0 k
 counted_known [] known h = h
 counted_known (d ∷ types) known h = counted_known types (with_fields known d.fields) (counted_type d.fields known h)
 
-number_step : (b c rest : Bool) (v : ℕ × Kind) (later : Option (ℕ × Kind)) (n m : ℕ) → b ≡ c → v.0 ≡ n → (b || rest) ≡ true → (rest ≡ true → number_in later ≡ suc n + m) → number_in (or_else (cond b (Some v) None) later) ≡ n + cond (not c) (1 + m) 0
+number_step : (b c rest : Bool) (v : ℕ × Kind) (later : Option (ℕ × Kind)) (n m : ℕ) → b ≡ c → v.0 ≡ n → (b || rest) ≡ true
+    → (rest ≡ true → number_in later ≡ suc n + m) → number_in (or_else (cond b (Some v) None) later) ≡ n + cond (not c) (1 + m) 0
 number_step true true rest v later n m same first e more = omega (arith, first)
 number_step false false rest v later n m same first e more = let h = more e in omega (arith, h)
 number_step true false rest v later n m same first e more = absurd (cc)
 number_step false true rest v later n m same first e more = absurd (cc)
 
 -- the number of a known name is its place among the names
-pub number_place : (known : List Field) (n : ℕ) (name : List ℕ) → Counted n known → is_known known name ≡ true → number_in (meaning known name) ≡ n + number_of (map (λ f. f.name) known) name
+pub number_place : (known : List Field) (n : ℕ) (name : List ℕ) → Counted n known → is_known known name ≡ true
+    → number_in (meaning known name) ≡ n + number_of (map (λ f. f.name) known) name
 number_place [] n name h e = absurd (cc)
 number_place (f ∷ known) n name h e =
-    number_step (bytes_eq f.name name) (bytes_eq name f.name) (is_known known name) (f.number, f.kind) (meaning known name) n (number_of (map (λ g. g.name) known) name) (same_text f.name name) h.0 e
+    number_step (bytes_eq f.name name) (bytes_eq name f.name) (is_known known name) (f.number, f.kind) (meaning known name) n
+    (number_of (map (λ g. g.name) known) name) (same_text f.name name) h.0 e
     (number_place known (suc n) name h.1)
 
 -- ---- what is declared is known
@@ -117,30 +125,39 @@ stays : (b : Bool) (known : List Field) (f : Field) (name : List ℕ) → is_kno
 stays true known f name e = e
 stays false known f name e = list_any-append (λ g. bytes_eq g.name name) known (f ∷ []) ∙ ap (λ b. b || list_any (λ g. bytes_eq g.name name) (f ∷ [])) e
 
-comes : (known : List Field) (name : List ℕ) (number : ℕ) (kind : Kind) (b : Bool) → is_known known name ≡ b → is_known (cond b known (known ++ record { name = name; number = number; kind = kind } ∷ [])) name ≡ true
+comes : (known : List Field) (name : List ℕ) (number : ℕ) (kind : Kind) (b : Bool) → is_known known name ≡ b
+    → is_known (cond b known (known ++ record { name = name; number = number; kind = kind } ∷ [])) name ≡ true
 comes known name number kind true e = e
 comes known name number kind false e =
-    list_any-append (λ g. bytes_eq g.name name) known (record { name = name; number = number; kind = kind } ∷ []) ∙ ap (λ b. b || (bytes_eq name name || false)) e ∙ ap (λ b. b || false) ((bytes_eq-Decides name name).1 refl)
+    list_any-append (λ g. bytes_eq g.name name) known (record { name = name; number = number; kind = kind } ∷ [])
+    ∙ ap (λ b. b || (bytes_eq name name || false)) e ∙ ap (λ b. b || false) ((bytes_eq-Decides name name).1 refl)
 
 stays_type : (ds : List FieldDecl) (known : List Field) (name : List ℕ) → is_known known name ≡ true → is_known (fold with_field known ds) name ≡ true
 stays_type [] known name e = e
-stays_type (d ∷ ds) known name e = stays_type ds (with_field known d) name (stays (is_known known d.name.text) known (record { name = d.name.text; number = length known; kind = d.kind }) name e)
+stays_type (d ∷ ds) known name e =
+    stays_type ds (with_field known d) name (stays (is_known known d.name.text) known
+    (record { name = d.name.text; number = length known; kind = d.kind }) name e)
 
 stays_known : (types : List TypeDecl) (known : List Field) (name : List ℕ) → is_known known name ≡ true → is_known (more_known known types) name ≡ true
 stays_known [] known name e = e
 stays_known (d ∷ types) known name e = stays_known types (with_fields known d.fields) name (stays_type d.fields known name e)
 
-declared_type : (ds : List FieldDecl) (known : List Field) (later : List Field) → ((name : List ℕ) → is_known (fold with_field known ds) name ≡ true → is_known later name ≡ true) → list_all (λ d. is_known later d.name.text) ds ≡ true
+declared_type : (ds : List FieldDecl) (known : List Field) (later : List Field)
+    → ((name : List ℕ) → is_known (fold with_field known ds) name ≡ true → is_known later name ≡ true)
+    → list_all (λ d. is_known later d.name.text) ds ≡ true
 declared_type [] known later on = refl
 declared_type (d ∷ ds) known later on =
     both (is_known later d.name.text) (list_all (λ x. is_known later x.name.text) ds)
     (on d.name.text (stays_type ds (with_field known d) d.name.text (comes known d.name.text (length known) d.kind (is_known known d.name.text) refl)))
     (declared_type ds (with_field known d) later on)
 
-pub declared_known : (types : List TypeDecl) (known : List Field) → list_all (λ t. list_all (λ d. is_known (more_known known types) d.name.text) t.fields) types ≡ true
+pub declared_known : (types : List TypeDecl) (known : List Field)
+    → list_all (λ t. list_all (λ d. is_known (more_known known types) d.name.text) t.fields) types ≡ true
 declared_known types known = each types known (more_known known types) (λ name e. e)
   where
-    each : (ts : List TypeDecl) (known later : List Field) → ((name : List ℕ) → is_known (more_known known ts) name ≡ true → is_known later name ≡ true) → list_all (λ t. list_all (λ d. is_known later d.name.text) t.fields) ts ≡ true
+    each : (ts : List TypeDecl) (known later : List Field)
+        → ((name : List ℕ) → is_known (more_known known ts) name ≡ true → is_known later name ≡ true)
+        → list_all (λ t. list_all (λ d. is_known later d.name.text) t.fields) ts ≡ true
     each [] known later on = refl
     each (t ∷ ts) known later on =
         both (list_all (λ d. is_known later d.name.text) t.fields) (list_all (λ u. list_all (λ d. is_known later d.name.text) u.fields) ts)

@@ -43,7 +43,8 @@ module _ {A : Type 0} (name : A → List ℕ) where
   pub record AreApart (xs : List A) : Type 0 where
     pub apart : (i j : ℕ) (d : A) → i < j → j < length xs → bytes_eq (name (get_or xs i d)) (name (get_or xs j d)) ≡ false
 
-  pub apart_of : (place : A → ℕ) (xs : List A) → first_from (λ k x. place_if (list_any (λ y. bytes_eq (name y) (name x)) (take k xs)) (place x)) 0 xs ≡ None → AreApart xs
+  pub apart_of : (place : A → ℕ) (xs : List A)
+      → first_from (λ k x. place_if (list_any (λ y. bytes_eq (name y) (name x)) (take k xs)) (place x)) 0 xs ≡ None → AreApart xs
   apart_of place xs e = record {
     apart = λ i j d before within.
         (let x : A = get_or xs j d in
@@ -56,9 +57,11 @@ module _ {A : Type 0} (name : A → List ℕ) where
   later_apart : (x : A) (xs : List A) → AreApart (x ∷ xs) → AreApart xs
   later_apart x xs h = record { apart = λ i j d before within. h.apart (suc i) (suc j) d (omega arith) (omega arith) }
 
-  none_among : (text : List ℕ) (xs : List A) (d : A) → ((j : ℕ) → j < length xs → bytes_eq text (name (get_or xs j d)) ≡ false) → is_among (map name xs) text ≡ false
+  none_among : (text : List ℕ) (xs : List A) (d : A) → ((j : ℕ) → j < length xs → bytes_eq text (name (get_or xs j d)) ≡ false)
+      → is_among (map name xs) text ≡ false
   none_among text [] d each = refl
-  none_among text (x ∷ xs) d each = neither (bytes_eq text (name x)) (is_among (map name xs) text) (each 0 (omega arith)) (none_among text xs d (λ j h. each (suc j) (omega arith)))
+  none_among text (x ∷ xs) d each =
+      neither (bytes_eq text (name x)) (is_among (map name xs) text) (each 0 (omega arith)) (none_among text xs d (λ j h. each (suc j) (omega arith)))
 
   pub distinct_of : (xs : List A) → AreApart xs → are_distinct (map name xs) ≡ true
   distinct_of [] h = refl
@@ -73,20 +76,26 @@ not_among : (b : Bool) → not b ≡ true → b ≡ false
 not_among true e = absurd (cc)
 not_among false e = refl
 
-one_more : (name text : List ℕ) (b : Bool) (rest all : List (List ℕ)) → (is_among all text ≡ false → is_among rest text ≡ false) → is_among (name ∷ all) text ≡ false → is_among (cond b (name ∷ rest) rest) text ≡ false
-one_more name text true rest all later e = neither (bytes_eq text name) (is_among rest text) (first_false (bytes_eq text name) (is_among all text) e) (later (second_false (bytes_eq text name) (is_among all text) e))
+one_more : (name text : List ℕ) (b : Bool) (rest all : List (List ℕ)) → (is_among all text ≡ false → is_among rest text ≡ false)
+    → is_among (name ∷ all) text ≡ false → is_among (cond b (name ∷ rest) rest) text ≡ false
+one_more name text true rest all later e =
+    neither (bytes_eq text name) (is_among rest text) (first_false (bytes_eq text name) (is_among all text) e)
+    (later (second_false (bytes_eq text name) (is_among all text) e))
 one_more name text false rest all later e = later (second_false (bytes_eq text name) (is_among all text) e)
 
 -- a name in the middle that is not among the others
-in_middle : (front back : List (List ℕ)) (name : List ℕ) → is_among front name ≡ false → is_among back name ≡ false → are_distinct (front ++ back) ≡ true → are_distinct (front ++ name ∷ back) ≡ true
+in_middle : (front back : List (List ℕ)) (name : List ℕ) → is_among front name ≡ false → is_among back name ≡ false
+    → are_distinct (front ++ back) ≡ true → are_distinct (front ++ name ∷ back) ≡ true
 in_middle [] back name a b e = both (not (is_among back name)) (are_distinct back) (ap not b) e
 in_middle (x ∷ front) back name a b e =
     let others = sym (list_any-append (bytes_eq x) front back) ∙ not_among (is_among (front ++ back) x) (left_of (not (is_among (front ++ back) x)) (are_distinct (front ++ back)) e) in
     let none = list_any-append (bytes_eq x) front (name ∷ back)
     ∙ neither (is_among front x) (bytes_eq x name || is_among back x) (first_false (is_among front x) (is_among back x) others)
-    (neither (bytes_eq x name) (is_among back x) (same_text x name ∙ first_false (bytes_eq name x) (is_among front name) a) (second_false (is_among front x) (is_among back x) others)) in
+    (neither (bytes_eq x name) (is_among back x) (same_text x name ∙ first_false (bytes_eq name x) (is_among front name) a)
+    (second_false (is_among front x) (is_among back x) others)) in
     both (not (is_among (front ++ name ∷ back) x)) (are_distinct (front ++ name ∷ back)) (ap not none)
-    (in_middle front back name (second_false (bytes_eq name x) (is_among front name) a) b (right_of (not (is_among (front ++ back) x)) (are_distinct (front ++ back)) e))
+    (in_middle front back name (second_false (bytes_eq name x) (is_among front name) a) b
+    (right_of (not (is_among (front ++ back) x)) (are_distinct (front ++ back)) e))
 
 module _ {B C : Type 0} (f : Opener → B) (g : Opener → C) (stage_name : B → List ℕ) (negation_name : C → List ℕ)
     (named_f : (o : Opener) → stage_name (f o) ≡ o.name.text) (named_g : (o : Opener) → negation_name (g o) ≡ o.name.text) where
@@ -96,8 +105,10 @@ module _ {B C : Type 0} (f : Opener → B) (g : Opener → C) (stage_name : B �
   abbrev negation_names : List Opener → List (List ℕ)
   negation_names os = map negation_name (map g (filter (λ o. is_negated o.how) os))
 
-  put : (b : Bool) (o : Opener) (text : List ℕ) {D : Type 0} (h : Opener → D) (of : D → List ℕ) → of (h o) ≡ o.name.text → (rest all : List (List ℕ)) (os : List Opener) → map of (map h os) ≡ rest
-      → (is_among all text ≡ false → is_among rest text ≡ false) → is_among (o.name.text ∷ all) text ≡ false → is_among (map of (map h (cond b (o ∷ os) os))) text ≡ false
+  put : (b : Bool) (o : Opener) (text : List ℕ) {D : Type 0} (h : Opener → D) (of : D → List ℕ) → of (h o) ≡ o.name.text
+      → (rest all : List (List ℕ)) (os : List Opener) → map of (map h os) ≡ rest
+      → (is_among all text ≡ false → is_among rest text ≡ false) → is_among (o.name.text ∷ all) text ≡ false
+      → is_among (map of (map h (cond b (o ∷ os) os))) text ≡ false
   put b o text h of same rest all os is later e =
       ap (λ names. is_among names text) (kept_name b) ∙ one_more o.name.text text b rest all later e
     where
@@ -107,14 +118,20 @@ module _ {B C : Type 0} (f : Opener → B) (g : Opener → C) (stage_name : B �
 
   not_stage : (text : List ℕ) (os : List Opener) → is_among (map (λ o. o.name.text) os) text ≡ false → is_among (stage_names os) text ≡ false
   not_stage text [] e = refl
-  not_stage text (o ∷ os) e = put (is_positive o) o text f stage_name (named_f o) (stage_names os) (map (λ x. x.name.text) os) (filter is_positive os) refl (not_stage text os) e
+  not_stage text (o ∷ os) e =
+      put (is_positive o) o text f stage_name (named_f o) (stage_names os) (map (λ x. x.name.text) os) (filter is_positive os) refl
+      (not_stage text os) e
 
   not_negation : (text : List ℕ) (os : List Opener) → is_among (map (λ o. o.name.text) os) text ≡ false → is_among (negation_names os) text ≡ false
   not_negation text [] e = refl
-  not_negation text (o ∷ os) e = put (is_negated o.how) o text g negation_name (named_g o) (negation_names os) (map (λ x. x.name.text) os) (filter (λ x. is_negated x.how) os) refl (not_negation text os) e
+  not_negation text (o ∷ os) e =
+      put (is_negated o.how) o text g negation_name (named_g o) (negation_names os) (map (λ x. x.name.text) os) (filter (λ x. is_negated x.how) os)
+      refl (not_negation text os) e
 
-  placed_one : (b : Bool) (o : Opener) (os : List Opener) → is_among (map (λ x. x.name.text) os) o.name.text ≡ false → are_distinct (stage_names os ++ negation_names os) ≡ true
-      → are_distinct (map stage_name (map f (cond (not b) (o ∷ filter is_positive os) (filter is_positive os))) ++ map negation_name (map g (cond b (o ∷ filter (λ x. is_negated x.how) os) (filter (λ x. is_negated x.how) os)))) ≡ true
+  placed_one : (b : Bool) (o : Opener) (os : List Opener) → is_among (map (λ x. x.name.text) os) o.name.text ≡ false
+      → are_distinct (stage_names os ++ negation_names os) ≡ true
+      → are_distinct (map stage_name (map f (cond (not b) (o ∷ filter is_positive os) (filter is_positive os)))
+      ++ map negation_name (map g (cond b (o ∷ filter (λ x. is_negated x.how) os) (filter (λ x. is_negated x.how) os)))) ≡ true
   placed_one true o os new later =
       let whole = in_middle (stage_names os) (negation_names os) o.name.text (not_stage o.name.text os new) (not_negation o.name.text os new) later in
       subst (λ (text : List ℕ). are_distinct (stage_names os ++ text ∷ negation_names os) ≡ true) (sym (named_g o)) whole
@@ -126,7 +143,8 @@ module _ {B C : Type 0} (f : Opener → B) (g : Opener → C) (stage_name : B �
   pub names_differ : (os : List Opener) → are_distinct (map (λ o. o.name.text) os) ≡ true → are_distinct (stage_names os ++ negation_names os) ≡ true
   names_differ [] e = refl
   names_differ (o ∷ os) e =
-      placed_one (is_negated o.how) o os (not_among (is_among (map (λ x. x.name.text) os) o.name.text) (left_of (not (is_among (map (λ x. x.name.text) os) o.name.text)) (are_distinct (map (λ x. x.name.text) os)) e))
+      placed_one (is_negated o.how) o os (not_among (is_among (map (λ x. x.name.text) os) o.name.text)
+      (left_of (not (is_among (map (λ x. x.name.text) os) o.name.text)) (are_distinct (map (λ x. x.name.text) os)) e))
       (names_differ os (right_of (not (is_among (map (λ x. x.name.text) os) o.name.text)) (are_distinct (map (λ x. x.name.text) os)) e))
 
 -- ---- the plan
@@ -156,5 +174,7 @@ module _ (fields : List Field) (file : File) (sound : fault_with fields file ≡
   unfolding stages_of negations_of
   plan_named = record {
     types = ap are_distinct (type_names file.types) ∙ distinct_of (λ d. d.name.text) file.types types_apart;
-    stages = names_differ (stage_of fields file) (negation_of fields file) (λ s. s.name) (λ n. n.name) stage_named negation_named file.openers (distinct_of (λ o. o.name.text) file.openers openers_apart);
+    stages =
+        names_differ (stage_of fields file) (negation_of fields file) (λ s. s.name) (λ n. n.name) stage_named negation_named file.openers
+        (distinct_of (λ o. o.name.text) file.openers openers_apart);
   }

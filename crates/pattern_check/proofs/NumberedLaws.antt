@@ -59,20 +59,24 @@ grown p true xs x e = or_left (list_any p xs) (p x) e
 grown p false xs x e = ap (λ b. list_any p xs || b) (sym (or_false (p x))) ∙ sym (list_any-append p xs (x ∷ [])) ∙ e
 
 module _ (name : List ℕ) where
-  known_more : (ds : List FieldDecl) (fields : List Field) → is_known (fold with_field fields ds) name ≡ true → (is_known fields name || is_declared ds name) ≡ true
+  known_more : (ds : List FieldDecl) (fields : List Field) → is_known (fold with_field fields ds) name ≡ true
+      → (is_known fields name || is_declared ds name) ≡ true
   known_more [] fields e = or_left (is_known fields name) false e
   known_more (d ∷ ds) fields e =
       let later = known_more ds (with_field fields d) e in
       sym (or_assoc (is_known fields name) (bytes_eq d.name.text name) (is_declared ds name))
       ∙ or_so (is_known (with_field fields d) name) (is_declared ds name) (is_known fields name || bytes_eq d.name.text name) (is_declared ds name)
-      (grown (λ f. bytes_eq f.name name) (is_known fields d.name.text) fields (record { name = d.name.text; number = length fields; kind = d.kind })) (λ h. h) later
+      (grown (λ f. bytes_eq f.name name) (is_known fields d.name.text) fields (record { name = d.name.text; number = length fields; kind = d.kind }))
+      (λ h. h) later
 
-  known_types : (types : List TypeDecl) (fields : List Field) → is_known (fold (λ known d. with_fields known d.fields) fields types) name ≡ true → (is_known fields name || is_somewhere types name) ≡ true
+  known_types : (types : List TypeDecl) (fields : List Field) → is_known (fold (λ known d. with_fields known d.fields) fields types) name ≡ true
+      → (is_known fields name || is_somewhere types name) ≡ true
   known_types [] fields e = or_left (is_known fields name) false e
   known_types (d ∷ types) fields e =
       let later = known_types types (with_fields fields d.fields) e in
       sym (or_assoc (is_known fields name) (is_declared d.fields name) (is_somewhere types name))
-      ∙ or_so (is_known (with_fields fields d.fields) name) (is_somewhere types name) (is_known fields name || is_declared d.fields name) (is_somewhere types name)
+      ∙ or_so (is_known (with_fields fields d.fields) name) (is_somewhere types name) (is_known fields name || is_declared d.fields name)
+      (is_somewhere types name)
       (known_more d.fields fields) (λ h. h) later
 
   pub known_somewhere : (types : List TypeDecl) → is_known (known_fields types) name ≡ true → is_somewhere types name ≡ true
@@ -88,13 +92,15 @@ module _ (fields : List Field) (name : List ℕ) where
   in_type : (ds : List FieldDecl) → is_declared ds name ≡ true → list_any (λ f. f.number == field_number fields name) (fields_of fields ds) ≡ true
   in_type [] e = e
   in_type (d ∷ ds) e =
-      or_so (bytes_eq d.name.text name) (is_declared ds name) (field_number fields d.name.text == field_number fields name) (list_any (λ f. f.number == field_number fields name) (fields_of fields ds))
+      or_so (bytes_eq d.name.text name) (is_declared ds name) (field_number fields d.name.text == field_number fields name)
+      (list_any (λ f. f.number == field_number fields name) (fields_of fields ds))
       (same_number d) (in_type ds) e
 
   pub numbered_field : (types : List TypeDecl) → is_somewhere types name ≡ true → has_field (types_of fields types) (field_number fields name) ≡ true
   numbered_field [] e = e
   numbered_field (d ∷ types) e =
-      or_so (is_declared d.fields name) (is_somewhere types name) (list_any (λ f. f.number == field_number fields name) (fields_of fields d.fields)) (has_field (types_of fields types) (field_number fields name))
+      or_so (is_declared d.fields name) (is_somewhere types name) (list_any (λ f. f.number == field_number fields name) (fields_of fields d.fields))
+      (has_field (types_of fields types) (field_number fields name))
       (in_type d.fields) (numbered_field types) e
 
 -- ---- what is mentioned
@@ -110,7 +116,8 @@ module _ (file : File) where
       (λ d h. right_of (bytes_eq d.name.text type.text) (is_declared d.fields name) h) file.types e
 
   pub field_somewhere : (spot : Site) (name : List ℕ) → is_unknown_field file fields spot name ≡ false → is_somewhere file.types name ≡ true
-  field_somewhere (site.Condition k) name e = had_somewhere (type_of (slice_get file.openers k)) name (double_not (may_have file.types fields (type_of (slice_get file.openers k)) name) e)
+  field_somewhere (site.Condition k) name e =
+      had_somewhere (type_of (slice_get file.openers k)) name (double_not (may_have file.types fields (type_of (slice_get file.openers k)) name) e)
   field_somewhere (site.Until k) name e = known_somewhere name file.types (double_not (is_known fields name) e)
   field_somewhere site.Select name e = absurd (cc)
 
@@ -118,24 +125,37 @@ module _ (file : File) where
   positive_found None e h = absurd (cc)
   positive_found (Some o) e h = ap not h
 
-  pub positive_name : (spot : Site) (name : Name) → bad_name rule.UnknownName file.openers spot name ≡ None → bad_name rule.NegatedName file.openers spot name ≡ None → is_positive_one (slice_get file.openers (opener_number file.openers name.text)) ≡ true
+  pub positive_name : (spot : Site) (name : Name) → bad_name rule.UnknownName file.openers spot name ≡ None
+      → bad_name rule.NegatedName file.openers spot name ≡ None
+      → is_positive_one (slice_get file.openers (opener_number file.openers name.text)) ≡ true
   positive_name spot name e h =
-      positive_found (slice_get file.openers (opener_number file.openers name.text)) (not_broken (is_none (slice_get file.openers (opener_number file.openers name.text))) name.place e) (not_broken (is_negated_one (slice_get file.openers (opener_number file.openers name.text))) name.place h)
+      positive_found (slice_get file.openers (opener_number file.openers name.text))
+      (not_broken (is_none (slice_get file.openers (opener_number file.openers name.text))) name.place e)
+      (not_broken (is_negated_one (slice_get file.openers (opener_number file.openers name.text))) name.place h)
 
-  pub stage_numbered : (n : ℕ) → length (filter is_positive file.openers) ≡ n → (spot : Site) (name : Name) → bad_name rule.UnknownName file.openers spot name ≡ None → bad_name rule.NegatedName file.openers spot name ≡ None → nat_lt (stages_before file.openers name.text) n ≡ true
+  pub stage_numbered : (n : ℕ) → length (filter is_positive file.openers) ≡ n → (spot : Site) (name : Name)
+      → bad_name rule.UnknownName file.openers spot name ≡ None → bad_name rule.NegatedName file.openers spot name ≡ None
+      → nat_lt (stages_before file.openers name.text) n ≡ true
   stage_numbered n count spot name e h =
-      below (stages_before file.openers name.text) n (subst (λ (m : ℕ). stages_before file.openers name.text < m) count (found_positive file.openers (opener_number file.openers name.text) (positive_name spot name e h)))
+      below (stages_before file.openers name.text) n
+      (subst (λ (m : ℕ). stages_before file.openers name.text < m) count
+      (found_positive file.openers (opener_number file.openers name.text) (positive_name spot name e h)))
 
   field_numbered : (name : List ℕ) → is_somewhere file.types name ≡ true → has_field (types_of fields file.types) (field_number fields name) ≡ true
   field_numbered name e = numbered_field fields name file.types e
 
   -- where the names of stages have numbers below the bound, what is mentioned has numbers that the plan has
-  pub mention_numbered : (n : ℕ) (spot : Site) → ((name : Name) → Keeps (λ r. bad_name r file.openers spot name) → nat_lt (stages_before file.openers name.text) n ≡ true)
+  pub mention_numbered : (n : ℕ) (spot : Site)
+      → ((name : Name) → Keeps (λ r. bad_name r file.openers spot name) → nat_lt (stages_before file.openers name.text) n ≡ true)
       → (m : Mention) → Keeps (λ r. bad_mention r file fields spot m) → is_numbered n (types_of fields file.types) fields file.openers m ≡ true
-  mention_numbered n spot stage (a_field name) h = field_numbered name.text (field_somewhere spot name.text (not_broken (is_unknown_field file fields spot name.text) name.place h.fields_known))
-  mention_numbered n spot stage (a_stage name) h = stage name (record { fields_known = h.fields_known; names_known = h.names_known; names_positive = h.names_positive; none_later = h.none_later })
+  mention_numbered n spot stage (a_field name) h =
+      field_numbered name.text (field_somewhere spot name.text (not_broken (is_unknown_field file fields spot name.text) name.place h.fields_known))
+  mention_numbered n spot stage (a_stage name) h =
+      stage name (record { fields_known = h.fields_known; names_known = h.names_known; names_positive = h.names_positive; none_later = h.none_later })
   mention_numbered n spot stage (a_stage_field name field) h =
       both (nat_lt (stages_before file.openers name.text) n) (has_field (types_of fields file.types) (field_number fields field.text))
       (stage name (record { fields_known = refl; names_known = h.names_known; names_positive = h.names_positive; none_later = h.none_later }))
       (field_numbered field.text (had_somewhere (type_taken (slice_get file.openers (opener_number file.openers name.text))) field.text
-      (double_not (may_have file.types fields (type_taken (slice_get file.openers (opener_number file.openers name.text))) field.text) (not_broken (not (may_have file.types fields (type_taken (slice_get file.openers (opener_number file.openers name.text))) field.text)) field.place h.fields_known))))
+      (double_not (may_have file.types fields (type_taken (slice_get file.openers (opener_number file.openers name.text))) field.text)
+      (not_broken (not (may_have file.types fields (type_taken (slice_get file.openers (opener_number file.openers name.text))) field.text))
+      field.place h.fields_known))))

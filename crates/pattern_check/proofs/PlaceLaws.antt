@@ -52,12 +52,14 @@ sum_rises f (x ∷ xs) (suc i) (suc j) h =
     let right = sum_by-cons f x (take j xs) in
     let whole : sum_by f (x ∷ take i xs) ≤ sum_by f (x ∷ take j xs) = omega arith in whole
 
-made_if : {A B : Type 0} (f : A → B) (p : B → Bool) (b : Bool) (x : A) (rest : List A) → (b ≡ true → p (f x) ≡ true) → list_all p (map f rest) ≡ true → list_all p (map f (cond b (x ∷ rest) rest)) ≡ true
+made_if : {A B : Type 0} (f : A → B) (p : B → Bool) (b : Bool) (x : A) (rest : List A) → (b ≡ true → p (f x) ≡ true) → list_all p (map f rest) ≡ true
+    → list_all p (map f (cond b (x ∷ rest) rest)) ≡ true
 made_if f p true x rest here later = both (p (f x)) (list_all p (map f rest)) (here refl) later
 made_if f p false x rest here later = later
 
 -- each that passes q is made one that passes p
-pub made_of : {A B : Type 0} (q : A → Bool) (f : A → B) (p : B → Bool) (xs : List A) → ((k : ℕ) (d : A) → k < length xs → q (get_or xs k d) ≡ true → p (f (get_or xs k d)) ≡ true) → list_all p (map f (filter q xs)) ≡ true
+pub made_of : {A B : Type 0} (q : A → Bool) (f : A → B) (p : B → Bool) (xs : List A)
+    → ((k : ℕ) (d : A) → k < length xs → q (get_or xs k d) ≡ true → p (f (get_or xs k d)) ≡ true) → list_all p (map f (filter q xs)) ≡ true
 made_of q f p [] each = refl
 made_of q f p (x ∷ xs) each = made_if f p (q x) x (filter q xs) (each 0 x (omega arith)) (made_of q f p xs (λ k d h. each (suc k) d (omega arith)))
 
@@ -108,12 +110,14 @@ module _ (openers : List Opener) (begins : begins_once openers ≡ true) (once :
   pub stages_here : (k : ℕ) (d : Opener) → k < length openers → stages_before openers (get_or openers k d).name.text ≡ before k
   stages_here k d h = ap (λ (n : ℕ). count_by is_positive (take n openers)) (own_place openers k d h once)
 
-  last_positive : (d : Opener) → 1 ≤ length openers → negated_place (slice_get openers (length openers - 1)) ≡ None → is_negated (get_or openers (length openers - 1) d).how ≡ false
+  last_positive : (d : Opener) → 1 ≤ length openers → negated_place (slice_get openers (length openers - 1)) ≡ None
+      → is_negated (get_or openers (length openers - 1) d).how ≡ false
   last_positive d some e =
       let there = got openers (length openers - 1) d (omega arith) in
       not_broken (is_negated (get_or openers (length openers - 1) d).how) (get_or openers (length openers - 1) d).name.place (sym (ap negated_place there) ∙ e)
 
-  pub more_come : (k : ℕ) (d : Opener) → k < length openers → is_negated (get_or openers k d).how ≡ true → negated_place (slice_get openers (length openers - 1)) ≡ None → before k < count_by is_positive openers
+  pub more_come : (k : ℕ) (d : Opener) → k < length openers → is_negated (get_or openers k d).how ≡ true
+      → negated_place (slice_get openers (length openers - 1)) ≡ None → before k < count_by is_positive openers
   more_come k d h e ends =
       let last = last_positive d (omega arith) ends in
       let earlier = differ_so (λ (o : Opener). is_negated o.how) openers k (length openers - 1) d e last (omega arith) in
@@ -138,7 +142,8 @@ last_of (s ∷ ss) k h e = let same : length ss ≡ k - 1 = omega arith in last_
 
 module _ (f : Opener → Stage) (is : (o : Opener) → (f o).optional ≡ has role.Optional o.mods) where
   behind_one : (negated : Bool) (o : Opener) (os : List Opener) (b : Bool) → ((x : Bool) → fold behind x os ≡ fold left_out x (map f (filter is_positive os)))
-      → fold behind (cond negated b (has role.Optional o.mods)) os ≡ fold left_out b (map f (cond (not negated) (o ∷ filter is_positive os) (filter is_positive os)))
+      → fold behind (cond negated b (has role.Optional o.mods)) os
+      ≡ fold left_out b (map f (cond (not negated) (o ∷ filter is_positive os) (filter is_positive os)))
   behind_one true o os b later = later b
   behind_one false o os b later = later (has role.Optional o.mods) ∙ ap (λ x. fold left_out x (map f (filter is_positive os))) (sym (is o))
 
@@ -150,13 +155,16 @@ module _ (f : Opener → Stage) (is : (o : Opener) → (f o).optional ≡ has ro
   made_count os = length-map (filter is_positive os) f ∙ length-filter is_positive os
 
   -- the last stage before the place
-  behind_place : (openers : List Opener) (k : ℕ) → 1 ≤ count_by is_positive (take k openers) → ends_optional (take k openers) ≡ is_optional (slice_get (map f (filter is_positive openers)) (count_by is_positive (take k openers) - 1))
+  behind_place : (openers : List Opener) (k : ℕ) → 1 ≤ count_by is_positive (take k openers)
+      → ends_optional (take k openers) ≡ is_optional (slice_get (map f (filter is_positive openers)) (count_by is_positive (take k openers) - 1))
   behind_place openers k some =
       let n : ℕ = count_by is_positive (take k openers) in
       let front : List Stage = map f (filter is_positive (take k openers)) in
       let rest : List Stage = map f (filter is_positive (drop k openers)) in
       let whole : map f (filter is_positive openers) ≡ front ++ rest
-      = ap (λ os. map f (filter is_positive os)) (sym (take-append-drop k openers)) ∙ ap (map f) (filter-append is_positive (take k openers) (drop k openers)) ∙ map-append f (filter is_positive (take k openers)) (filter is_positive (drop k openers)) in
+      = ap (λ os. map f (filter is_positive os)) (sym (take-append-drop k openers))
+      ∙ ap (map f) (filter-append is_positive (take k openers) (drop k openers))
+      ∙ map-append f (filter is_positive (take k openers)) (filter is_positive (drop k openers)) in
       let long = made_count (take k openers) in
       behind_all (take k openers) false ∙ last_of front n some long
       ∙ sym (ap is_optional (got_front front rest (n - 1) (omega arith)))
@@ -164,7 +172,8 @@ module _ (f : Opener → Stage) (is : (o : Opener) → (f o).optional ≡ has ro
 
 -- ---- the plan
 
-pub kept_by_two : {A B : Type 0} (f g : A → Option B) (p : A → Bool) → ((x : A) → f x ≡ None → g x ≡ None → p x ≡ true) → (xs : List A) → first_some f xs ≡ None → first_some g xs ≡ None → list_all p xs ≡ true
+pub kept_by_two : {A B : Type 0} (f g : A → Option B) (p : A → Bool) → ((x : A) → f x ≡ None → g x ≡ None → p x ≡ true) → (xs : List A)
+    → first_some f xs ≡ None → first_some g xs ≡ None → list_all p xs ≡ true
 kept_by_two f g p each [] a b = refl
 kept_by_two f g p each (x ∷ xs) a b =
     both (p x) (list_all p xs) (each x (first_none (f x) (first_some f xs) a) (first_none (g x) (first_some g xs) b))
@@ -180,7 +189,8 @@ module _ (fields : List Field) (file : File) (formed : IsWellFormed file) (sound
   pub after_here : (k : ℕ) (d : Opener) → k < length file.openers → (negation_of fields file (get_or file.openers k d)).after ≡ places k - 1
   after_here k d h = behind_is fields file (get_or file.openers k d) ∙ ap (λ (n : ℕ). n - 1) (stages_here file.openers formed.begins once k d h)
 
-  pub before_last : (k : ℕ) (d : Opener) → k < length file.openers → is_negated (get_or file.openers k d).how ≡ true → nat_lt (suc (negation_of fields file (get_or file.openers k d)).after) (length (stages_of fields file)) ≡ true
+  pub before_last : (k : ℕ) (d : Opener) → k < length file.openers → is_negated (get_or file.openers k d).how ≡ true
+      → nat_lt (suc (negation_of fields file (get_or file.openers k d)).after) (length (stages_of fields file)) ≡ true
   unfolding ends_with_not
   before_last k d h e =
       let one = one_first file.openers formed.begins once k d h e in
@@ -192,7 +202,8 @@ module _ (fields : List Field) (file : File) (formed : IsWellFormed file) (sound
   unfolding stage_of
   stage_optional o = refl
 
-  pub behind_fixed : (k : ℕ) (d : Opener) → k < length file.openers → is_negated (get_or file.openers k d).how ≡ true → not (is_optional (slice_get (stages_of fields file) (negation_of fields file (get_or file.openers k d)).after)) ≡ true
+  pub behind_fixed : (k : ℕ) (d : Opener) → k < length file.openers → is_negated (get_or file.openers k d).how ≡ true
+      → not (is_optional (slice_get (stages_of fields file) (negation_of fields file (get_or file.openers k d)).after)) ≡ true
   unfolding not_after_optional stages_of
   behind_fixed k d h e =
       let o : Opener = get_or file.openers k d in
@@ -201,8 +212,10 @@ module _ (fields : List Field) (file : File) (formed : IsWellFormed file) (sound
       let none = subst (λ (n : ℕ). (is_negated o.how && ends_optional (take n file.openers)) ≡ false) zero_so (not_broken (is_negated o.how && ends_optional (take (0 + k) file.openers)) o.name.place kept_there) in
       let fixed = second_so (is_negated o.how) (ends_optional (take k file.openers)) none e in
       let there = behind_place (stage_of fields file) stage_optional file.openers k (one_first file.openers formed.begins once k d h e) in
-      ap (λ (n : ℕ). not (is_optional (slice_get (map (stage_of fields file) (filter is_positive file.openers)) n))) (after_here k d h) ∙ ap not (sym there ∙ fixed)
+      ap (λ (n : ℕ). not (is_optional (slice_get (map (stage_of fields file) (filter is_positive file.openers)) n))) (after_here k d h)
+      ∙ ap not (sym there ∙ fixed)
 
-  pub open_loop : (o : Opener) → twice_quantifier o ≡ None → until_without_open_loop o ≡ None → ends_open_loop (stage_of fields file o).until (stage_of fields file o).max ≡ true
+  pub open_loop : (o : Opener) → twice_quantifier o ≡ None → until_without_open_loop o ≡ None
+      → ends_open_loop (stage_of fields file o).until (stage_of fields file o).max ≡ true
   unfolding stage_of
   open_loop o a b = until_open fields file.openers o a b

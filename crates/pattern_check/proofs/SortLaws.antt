@@ -44,12 +44,15 @@ module _ (types : List EventType) where
   terms-items end_of-Term = refl
   terms-items (more_of-Term minus x row) = ap (λ later. has_sort types (want.Only sort.Int) x && later) (terms-items row)
 
-  factors-items : {n : _} (row : Row_of-Factor n) → sorted_factors types row ≡ list_all (λ f. has_sort types (want.Only sort.Int) f.expr) (items-the_row-Factor n row)
+  factors-items : {n : _} (row : Row_of-Factor n)
+      → sorted_factors types row ≡ list_all (λ f. has_sort types (want.Only sort.Int) f.expr) (items-the_row-Factor n row)
   factors-items end_of-Factor = refl
   factors-items (more_of-Factor how x row) = ap (λ later. has_sort types (want.Only sort.Int) x && later) (factors-items row)
 
-  parts-hidden : (parts : List Expr) → sorted_parts types (want.Only sort.Bool) (hidden-the_row-Expr-0 parts) ≡ list_all (has_sort types (want.Only sort.Bool)) parts
-  parts-hidden parts = parts-items (want.Only sort.Bool) (hidden-the_row-Expr-0 parts) ∙ ap (list_all (has_sort types (want.Only sort.Bool))) (items_hidden-the_row-Expr-0 parts)
+  parts-hidden : (parts : List Expr)
+      → sorted_parts types (want.Only sort.Bool) (hidden-the_row-Expr-0 parts) ≡ list_all (has_sort types (want.Only sort.Bool)) parts
+  parts-hidden parts = parts-items (want.Only sort.Bool) (hidden-the_row-Expr-0 parts)
+      ∙ ap (list_all (has_sort types (want.Only sort.Bool))) (items_hidden-the_row-Expr-0 parts)
 
   sorted-Any : (parts : List Expr) → is_sorted types (plan.Any parts) ≡ list_all (has_sort types (want.Only sort.Bool)) parts
   sorted-Any parts = parts-hidden parts
@@ -58,12 +61,15 @@ module _ (types : List EventType) where
   sorted-All parts = parts-hidden parts
 
   sorted-Add : (terms : List Term) → is_sorted types (plan.Add terms) ≡ list_all (λ t. has_sort types (want.Only sort.Int) t.expr) terms
-  sorted-Add terms = terms-items (hidden-the_row-Term-2 terms) ∙ ap (list_all (λ t. has_sort types (want.Only sort.Int) t.expr)) (items_hidden-the_row-Term-2 terms)
+  sorted-Add terms = terms-items (hidden-the_row-Term-2 terms)
+      ∙ ap (list_all (λ t. has_sort types (want.Only sort.Int) t.expr)) (items_hidden-the_row-Term-2 terms)
 
   sorted-Mul : (factors : List Factor) → is_sorted types (plan.Mul factors) ≡ list_all (λ f. has_sort types (want.Only sort.Int) f.expr) factors
-  sorted-Mul factors = factors-items (hidden-the_row-Factor-3 factors) ∙ ap (list_all (λ f. has_sort types (want.Only sort.Int) f.expr)) (items_hidden-the_row-Factor-3 factors)
+  sorted-Mul factors = factors-items (hidden-the_row-Factor-3 factors)
+      ∙ ap (list_all (λ f. has_sort types (want.Only sort.Int) f.expr)) (items_hidden-the_row-Factor-3 factors)
 
-  sorted-Compare : (c : Cmp) (x y : Expr) → is_sorted types (plan.Compare c x y) ≡ ((has_sort types want.Value x && true) && (has_sort types (want.Only (sort_of types x)) y && true))
+  sorted-Compare : (c : Cmp) (x y : Expr)
+      → is_sorted types (plan.Compare c x y) ≡ ((has_sort types want.Value x && true) && (has_sort types (want.Only (sort_of types x)) y && true))
   unfolding hidden-the_row-Expr-1 denote.Hole.Carrier.hidden
   sorted-Compare c x y = refl
 
@@ -130,8 +136,11 @@ module _ (types : List EventType) (fields : List Field) (openers : List Opener) 
   back : (ms ns : List Mention) → keep (ms ++ ns) ≡ true → keep ns ≡ true
   back ms ns e = right_of (keep ms) (keep ns) (sym (list_all-append (keeps_sort types fields) ms ns) ∙ e)
 
-  field_same : (name : List ℕ) → (same_sort (field_sort (meaning fields name)) (sort_of_field types (field_number fields name)) && true) ≡ true → sort_of_field types (field_number fields name) ≡ field_sort (meaning fields name)
-  field_same name h = sym (sorts_same (field_sort (meaning fields name)) (sort_of_field types (field_number fields name)) (left_of (same_sort (field_sort (meaning fields name)) (sort_of_field types (field_number fields name))) true h))
+  field_same : (name : List ℕ) → (same_sort (field_sort (meaning fields name)) (sort_of_field types (field_number fields name)) && true) ≡ true
+      → sort_of_field types (field_number fields name) ≡ field_sort (meaning fields name)
+  field_same name h =
+      sym (sorts_same (field_sort (meaning fields name)) (sort_of_field types (field_number fields name))
+      (left_of (same_sort (field_sort (meaning fields name)) (sort_of_field types (field_number fields name))) true h))
 
   sort_same : (node : SynNode) → keep (mentions_of_node node) ≡ true → sort_of types (expr_of_node fields openers node) ≡ syntax.sort_of fields node
   sort_same (Int n) h = refl
@@ -139,7 +148,8 @@ module _ (types : List EventType) (fields : List Field) (openers : List Opener) 
   sort_same (Truth b) h = refl
   sort_same (OneField name) h = field_same name.text h
   sort_same (Count name) h = refl
-  sort_same (Of what name field) h = ap (sort_of_aggregate (agg_of what)) (field_same field.text h) ∙ aggregates_same what (field_sort (meaning fields field.text))
+  sort_same (Of what name field) h = ap (sort_of_aggregate (agg_of what)) (field_same field.text h)
+      ∙ aggregates_same what (field_sort (meaning fields field.text))
   sort_same (Any' _ parts) h = refl
   sort_same (All' _ parts) h = refl
   sort_same (Compare' c _ x _ y) h = refl
@@ -148,25 +158,29 @@ module _ (types : List EventType) (fields : List Field) (openers : List Opener) 
   sort_same (Not' _ x) h = refl
   sort_same (Neg' _ x) h = refl
 
-  first_same : {n : _} (row : Row_of-SynExpr n) → formed.only (formed_parts row) ≡ true → keep (mentions_of_parts row) ≡ true → sort_of types (only (exprs_of_row fields openers row)) ≡ syntax.sort_of_first fields row
+  first_same : {n : _} (row : Row_of-SynExpr n) → formed.only (formed_parts row) ≡ true → keep (mentions_of_parts row) ≡ true
+      → sort_of types (only (exprs_of_row fields openers row)) ≡ syntax.sort_of_first fields row
   first_same end_of-SynExpr e h = absurd (cc)
   first_same (more_of-SynExpr place node row) e h = sort_same node (front (mentions_of_node node) (mentions_of_parts row) h)
 
   -- an operand that fits, and has no clash inside
-  pub fitting : (asked : Wanted) (place : ℕ) (node : SynNode) → unless (fits asked (syntax.sort_of fields node)) place (clash_in fields place node) ≡ None → keep (mentions_of_node node) ≡ true
+  pub fitting : (asked : Wanted) (place : ℕ) (node : SynNode)
+      → unless (fits asked (syntax.sort_of fields node)) place (clash_in fields place node) ≡ None → keep (mentions_of_node node) ≡ true
       → is_sorted types (expr_of_node fields openers node) ≡ true → has_sort types asked (expr_of_node fields openers node) ≡ true
   fitting asked place node c h inside =
       both (fits asked (sort_of types (expr_of_node fields openers node))) (is_sorted types (expr_of_node fields openers node))
       (ap (fits asked) (sort_same node h) ∙ fits_so (fits asked (syntax.sort_of fields node)) place (clash_in fields place node) c) inside
 
   mutual
-    pub sorted_node : (place : ℕ) (node : SynNode) → is_formed_node node ≡ true → clash_in fields place node ≡ None → keep (mentions_of_node node) ≡ true → is_sorted types (expr_of_node fields openers node) ≡ true
+    pub sorted_node : (place : ℕ) (node : SynNode) → is_formed_node node ≡ true → clash_in fields place node ≡ None
+        → keep (mentions_of_node node) ≡ true → is_sorted types (expr_of_node fields openers node) ≡ true
     sorted_node place (Int n) e c h = refl
     sorted_node place (Text t) e c h = refl
     sorted_node place (Truth b) e c h = refl
     sorted_node place (OneField name) e c h = refl
     sorted_node place (Count name) e c h = refl
-    sorted_node place (Of what name field) e c h = ap (is_aggregate (agg_of what)) (field_same field.text h) ∙ aggregate_so what (field_sort (meaning fields field.text)) place c
+    sorted_node place (Of what name field) e c h = ap (is_aggregate (agg_of what)) (field_same field.text h)
+        ∙ aggregate_so what (field_sort (meaning fields field.text)) place c
     sorted_node place (Any' _ parts) e c h =
         sorted-Any types (exprs_of_row fields openers parts)
         ∙ sorted_row (want.Only sort.Bool) parts (right_of (nat_le 2 (length (formed_parts parts))) (list_all (λ b. b) (formed_parts parts)) e) c h
@@ -175,51 +189,80 @@ module _ (types : List EventType) (fields : List Field) (openers : List Opener) 
         ∙ sorted_row (want.Only sort.Bool) parts (right_of (nat_le 2 (length (formed_parts parts))) (list_all (λ b. b) (formed_parts parts)) e) c h
     sorted_node place (Compare' op _ x _ y) e c h =
         sorted-Compare types (cmp_of op) (only (exprs_of_row fields openers x)) (only (exprs_of_row fields openers y))
-        ∙ both (has_sort types want.Value (only (exprs_of_row fields openers x)) && true) (has_sort types (want.Only (sort_of types (only (exprs_of_row fields openers x)))) (only (exprs_of_row fields openers y)) && true)
+        ∙ both (has_sort types want.Value (only (exprs_of_row fields openers x)) && true)
+        (has_sort types (want.Only (sort_of types (only (exprs_of_row fields openers x)))) (only (exprs_of_row fields openers y)) && true)
         (both (has_sort types want.Value (only (exprs_of_row fields openers x))) true
-        (sorted_only want.Value x (left_of (formed.only (formed_parts x)) (formed.only (formed_parts y)) e) (first_none (clash_in_parts fields want.Value x) (clash_in_parts fields (want.Only (syntax.sort_of_first fields x)) y) c) (front (mentions_of_parts x) (mentions_of_parts y) h)) refl)
+        (sorted_only want.Value x (left_of (formed.only (formed_parts x)) (formed.only (formed_parts y)) e)
+        (first_none (clash_in_parts fields want.Value x) (clash_in_parts fields (want.Only (syntax.sort_of_first fields x)) y) c)
+        (front (mentions_of_parts x) (mentions_of_parts y) h)) refl)
         (both (has_sort types (want.Only (sort_of types (only (exprs_of_row fields openers x)))) (only (exprs_of_row fields openers y))) true
-        (ap (λ s. has_sort types (want.Only s) (only (exprs_of_row fields openers y))) (first_same x (left_of (formed.only (formed_parts x)) (formed.only (formed_parts y)) e) (front (mentions_of_parts x) (mentions_of_parts y) h))
-        ∙ sorted_only (want.Only (syntax.sort_of_first fields x)) y (right_of (formed.only (formed_parts x)) (formed.only (formed_parts y)) e) (second_none (clash_in_parts fields want.Value x) (clash_in_parts fields (want.Only (syntax.sort_of_first fields x)) y) c) (back (mentions_of_parts x) (mentions_of_parts y) h)) refl)
+        (ap (λ s. has_sort types (want.Only s) (only (exprs_of_row fields openers y)))
+        (first_same x (left_of (formed.only (formed_parts x)) (formed.only (formed_parts y)) e)
+        (front (mentions_of_parts x) (mentions_of_parts y) h))
+        ∙ sorted_only (want.Only (syntax.sort_of_first fields x)) y (right_of (formed.only (formed_parts x)) (formed.only (formed_parts y)) e)
+        (second_none (clash_in_parts fields want.Value x) (clash_in_parts fields (want.Only (syntax.sort_of_first fields x)) y) c)
+        (back (mentions_of_parts x) (mentions_of_parts y) h)) refl)
     sorted_node place (Add' _ terms) e c h =
         sorted-Add types (terms_of_row fields openers terms) ∙ sorted_sum terms (sum_fine (formed_terms terms) e) c h
     sorted_node place (Mul' _ factors) e c h =
         sorted-Mul types (factors_of_row fields openers factors) ∙ sorted_product factors (product_fine (formed_factors factors) e) c h
     sorted_node place (Not' _ x) e c h =
-        sorted-Not types (only (exprs_of_row fields openers x)) ∙ both (has_sort types (want.Only sort.Bool) (only (exprs_of_row fields openers x))) true (sorted_only (want.Only sort.Bool) x e c h) refl
+        sorted-Not types (only (exprs_of_row fields openers x))
+        ∙ both (has_sort types (want.Only sort.Bool) (only (exprs_of_row fields openers x))) true (sorted_only (want.Only sort.Bool) x e c h) refl
     sorted_node place (Neg' _ x) e c h =
-        sorted-Neg types (only (exprs_of_row fields openers x)) ∙ both (has_sort types (want.Only sort.Int) (only (exprs_of_row fields openers x))) true (sorted_only (want.Only sort.Int) x e c h) refl
+        sorted-Neg types (only (exprs_of_row fields openers x))
+        ∙ both (has_sort types (want.Only sort.Int) (only (exprs_of_row fields openers x))) true (sorted_only (want.Only sort.Int) x e c h) refl
 
-    sorted_row : {n : _} (asked : Wanted) (row : Row_of-SynExpr n) → list_all (λ b. b) (formed_parts row) ≡ true → clash_in_parts fields asked row ≡ None → keep (mentions_of_parts row) ≡ true → list_all (has_sort types asked) (exprs_of_row fields openers row) ≡ true
+    sorted_row : {n : _} (asked : Wanted) (row : Row_of-SynExpr n) → list_all (λ b. b) (formed_parts row) ≡ true
+        → clash_in_parts fields asked row ≡ None → keep (mentions_of_parts row) ≡ true
+        → list_all (has_sort types asked) (exprs_of_row fields openers row) ≡ true
     sorted_row asked end_of-SynExpr e c h = refl
     sorted_row asked (more_of-SynExpr place node row) e c h =
         let here = first_none (unless (fits asked (syntax.sort_of fields node)) place (clash_in fields place node)) (clash_in_parts fields asked row) c in
         let kept = front (mentions_of_node node) (mentions_of_parts row) h in
         both (has_sort types asked (expr_of_node fields openers node)) (list_all (has_sort types asked) (exprs_of_row fields openers row))
-        (fitting asked place node here kept (sorted_node place node (left_of (is_formed_node node) (list_all (λ b. b) (formed_parts row)) e) (inside_so (fits asked (syntax.sort_of fields node)) place (clash_in fields place node) here) kept))
-        (sorted_row asked row (right_of (is_formed_node node) (list_all (λ b. b) (formed_parts row)) e) (second_none (unless (fits asked (syntax.sort_of fields node)) place (clash_in fields place node)) (clash_in_parts fields asked row) c) (back (mentions_of_node node) (mentions_of_parts row) h))
+        (fitting asked place node here kept (sorted_node place node (left_of (is_formed_node node) (list_all (λ b. b) (formed_parts row)) e)
+        (inside_so (fits asked (syntax.sort_of fields node)) place (clash_in fields place node) here) kept))
+        (sorted_row asked row (right_of (is_formed_node node) (list_all (λ b. b) (formed_parts row)) e)
+        (second_none (unless (fits asked (syntax.sort_of fields node)) place (clash_in fields place node)) (clash_in_parts fields asked row) c)
+        (back (mentions_of_node node) (mentions_of_parts row) h))
 
-    sorted_only : {n : _} (asked : Wanted) (row : Row_of-SynExpr n) → formed.only (formed_parts row) ≡ true → clash_in_parts fields asked row ≡ None → keep (mentions_of_parts row) ≡ true → has_sort types asked (only (exprs_of_row fields openers row)) ≡ true
+    sorted_only : {n : _} (asked : Wanted) (row : Row_of-SynExpr n) → formed.only (formed_parts row) ≡ true → clash_in_parts fields asked row ≡ None
+        → keep (mentions_of_parts row) ≡ true → has_sort types asked (only (exprs_of_row fields openers row)) ≡ true
     sorted_only asked end_of-SynExpr e c h = absurd (cc)
     sorted_only asked (more_of-SynExpr place node row) e c h =
         let here = first_none (unless (fits asked (syntax.sort_of fields node)) place (clash_in fields place node)) (clash_in_parts fields asked row) c in
         let kept = front (mentions_of_node node) (mentions_of_parts row) h in
-        fitting asked place node here kept (sorted_node place node e (inside_so (fits asked (syntax.sort_of fields node)) place (clash_in fields place node) here) kept)
+        fitting asked place node here kept (sorted_node place node e
+        (inside_so (fits asked (syntax.sort_of fields node)) place (clash_in fields place node) here) kept)
 
-    sorted_sum : {n : _} (row : Row_of-SynTerm n) → list_all (λ t. t.1) (formed_terms row) ≡ true → clash_in_terms fields row ≡ None → keep (mentions_of_terms row) ≡ true → list_all (λ t. has_sort types (want.Only sort.Int) t.expr) (terms_of_row fields openers row) ≡ true
+    sorted_sum : {n : _} (row : Row_of-SynTerm n) → list_all (λ t. t.1) (formed_terms row) ≡ true → clash_in_terms fields row ≡ None
+        → keep (mentions_of_terms row) ≡ true → list_all (λ t. has_sort types (want.Only sort.Int) t.expr) (terms_of_row fields openers row) ≡ true
     sorted_sum end_of-SynTerm e c h = refl
     sorted_sum (more_of-SynTerm minus place node row) e c h =
         let here = first_none (unless (fits (want.Only sort.Int) (syntax.sort_of fields node)) place (clash_in fields place node)) (clash_in_terms fields row) c in
         let kept = front (mentions_of_node node) (mentions_of_terms row) h in
-        both (has_sort types (want.Only sort.Int) (expr_of_node fields openers node)) (list_all (λ t. has_sort types (want.Only sort.Int) t.expr) (terms_of_row fields openers row))
-        (fitting (want.Only sort.Int) place node here kept (sorted_node place node (left_of (is_formed_node node) (list_all (λ t. t.1) (formed_terms row)) e) (inside_so (fits (want.Only sort.Int) (syntax.sort_of fields node)) place (clash_in fields place node) here) kept))
-        (sorted_sum row (right_of (is_formed_node node) (list_all (λ t. t.1) (formed_terms row)) e) (second_none (unless (fits (want.Only sort.Int) (syntax.sort_of fields node)) place (clash_in fields place node)) (clash_in_terms fields row) c) (back (mentions_of_node node) (mentions_of_terms row) h))
+        both (has_sort types (want.Only sort.Int) (expr_of_node fields openers node))
+        (list_all (λ t. has_sort types (want.Only sort.Int) t.expr) (terms_of_row fields openers row))
+        (fitting (want.Only sort.Int) place node here kept
+        (sorted_node place node (left_of (is_formed_node node) (list_all (λ t. t.1) (formed_terms row)) e)
+        (inside_so (fits (want.Only sort.Int) (syntax.sort_of fields node)) place (clash_in fields place node) here) kept))
+        (sorted_sum row (right_of (is_formed_node node) (list_all (λ t. t.1) (formed_terms row)) e)
+        (second_none (unless (fits (want.Only sort.Int) (syntax.sort_of fields node)) place (clash_in fields place node))
+        (clash_in_terms fields row) c) (back (mentions_of_node node) (mentions_of_terms row) h))
 
-    sorted_product : {n : _} (row : Row_of-SynFactor n) → list_all (λ t. t.1) (formed_factors row) ≡ true → clash_in_factors fields row ≡ None → keep (mentions_of_factors row) ≡ true → list_all (λ f. has_sort types (want.Only sort.Int) f.expr) (factors_of_row fields openers row) ≡ true
+    sorted_product : {n : _} (row : Row_of-SynFactor n) → list_all (λ t. t.1) (formed_factors row) ≡ true → clash_in_factors fields row ≡ None
+        → keep (mentions_of_factors row) ≡ true
+        → list_all (λ f. has_sort types (want.Only sort.Int) f.expr) (factors_of_row fields openers row) ≡ true
     sorted_product end_of-SynFactor e c h = refl
     sorted_product (more_of-SynFactor how place node row) e c h =
         let here = first_none (unless (fits (want.Only sort.Int) (syntax.sort_of fields node)) place (clash_in fields place node)) (clash_in_factors fields row) c in
         let kept = front (mentions_of_node node) (mentions_of_factors row) h in
-        both (has_sort types (want.Only sort.Int) (expr_of_node fields openers node)) (list_all (λ f. has_sort types (want.Only sort.Int) f.expr) (factors_of_row fields openers row))
-        (fitting (want.Only sort.Int) place node here kept (sorted_node place node (left_of (is_formed_node node) (list_all (λ t. t.1) (formed_factors row)) e) (inside_so (fits (want.Only sort.Int) (syntax.sort_of fields node)) place (clash_in fields place node) here) kept))
-        (sorted_product row (right_of (is_formed_node node) (list_all (λ t. t.1) (formed_factors row)) e) (second_none (unless (fits (want.Only sort.Int) (syntax.sort_of fields node)) place (clash_in fields place node)) (clash_in_factors fields row) c) (back (mentions_of_node node) (mentions_of_factors row) h))
+        both (has_sort types (want.Only sort.Int) (expr_of_node fields openers node))
+        (list_all (λ f. has_sort types (want.Only sort.Int) f.expr) (factors_of_row fields openers row))
+        (fitting (want.Only sort.Int) place node here kept
+        (sorted_node place node (left_of (is_formed_node node) (list_all (λ t. t.1) (formed_factors row)) e)
+        (inside_so (fits (want.Only sort.Int) (syntax.sort_of fields node)) place (clash_in fields place node) here) kept))
+        (sorted_product row (right_of (is_formed_node node) (list_all (λ t. t.1) (formed_factors row)) e)
+        (second_none (unless (fits (want.Only sort.Int) (syntax.sort_of fields node)) place (clash_in fields place node))
+        (clash_in_factors fields row) c) (back (mentions_of_node node) (mentions_of_factors row) h))

@@ -50,18 +50,23 @@ module _ (file : File) (well : IsWellFormed file) (sound : fault_with (known_fie
   abbrev types : List EventType
   types = types_of fields file.types
 
-  sorted_expression : (spot : Site) (asked : Wanted) (e : SynExpr) → is_formed e ≡ true → bad_expression rule.UnknownField file fields spot e ≡ None → clash_unless fields asked e ≡ None → has_sort types asked (expr_of fields file.openers e) ≡ true
+  sorted_expression : (spot : Site) (asked : Wanted) (e : SynExpr) → is_formed e ≡ true → bad_expression rule.UnknownField file fields spot e ≡ None
+      → clash_unless fields asked e ≡ None → has_sort types asked (expr_of fields file.openers e) ≡ true
   unfolding bad_expression clash_unless expr_of
   sorted_expression spot asked e good known c =
       let keep = all_kept (bad_mention rule.UnknownField file fields spot) (keeps_sort types fields) (mention_kept file well sound spot) (mentions_of e) known in
       fitting types fields file.openers asked e.place e.node c keep
-      (sorted_node types fields file.openers e.place e.node good (inside_so (fits asked (syntax.sort_of fields e.node)) e.place (clash_in fields e.place e.node) c) keep)
+      (sorted_node types fields file.openers e.place e.node good
+      (inside_so (fits asked (syntax.sort_of fields e.node)) e.place (clash_in fields e.place e.node) c) keep)
 
   abbrev part_true : Part → Bool
   part_true part = has_sort types (want.Only sort.Bool) part.expr
 
-  true_parts : (k : ℕ) (what : ModKind) → is_formed_modifier what ≡ true → bad_modifier rule.UnknownField file fields k what ≡ None → clash_in_modifier fields what ≡ None → list_all part_true (parts_of fields file.openers what) ≡ true
-  true_parts k (modifier.Filter join e) good known c = both (has_sort types (want.Only sort.Bool) (expr_of fields file.openers e)) true (sorted_expression (site.Condition k) (want.Only sort.Bool) e good known c) refl
+  true_parts : (k : ℕ) (what : ModKind) → is_formed_modifier what ≡ true → bad_modifier rule.UnknownField file fields k what ≡ None
+      → clash_in_modifier fields what ≡ None → list_all part_true (parts_of fields file.openers what) ≡ true
+  true_parts k (modifier.Filter join e) good known c =
+      both (has_sort types (want.Only sort.Bool) (expr_of fields file.openers e)) true
+      (sorted_expression (site.Condition k) (want.Only sort.Bool) e good known c) refl
   true_parts k (modifier.Until e) good known c = refl
   true_parts k (modifier.Times from to) good known c = refl
   true_parts k (modifier.TimesOrMore from) good known c = refl
@@ -70,8 +75,11 @@ module _ (file : File) (well : IsWellFormed file) (sound : fault_with (known_fie
   true_parts k modifier.Consecutive good known c = refl
   true_parts k modifier.AllowCombinations good known c = refl
 
-  true_until : (k : ℕ) (what : ModKind) → is_formed_modifier what ≡ true → bad_modifier rule.UnknownField file fields k what ≡ None → clash_in_modifier fields what ≡ None → if_truth types (until_in fields file.openers what) ≡ true
-  true_until k (modifier.Until e) good known c = both (has_sort types (want.Only sort.Bool) (expr_of fields file.openers e)) true (sorted_expression (site.Until k) (want.Only sort.Bool) e good known c) refl
+  true_until : (k : ℕ) (what : ModKind) → is_formed_modifier what ≡ true → bad_modifier rule.UnknownField file fields k what ≡ None
+      → clash_in_modifier fields what ≡ None → if_truth types (until_in fields file.openers what) ≡ true
+  true_until k (modifier.Until e) good known c =
+      both (has_sort types (want.Only sort.Bool) (expr_of fields file.openers e)) true
+      (sorted_expression (site.Until k) (want.Only sort.Bool) e good known c) refl
   true_until k (modifier.Filter join e) good known c = refl
   true_until k (modifier.Times from to) good known c = refl
   true_until k (modifier.TimesOrMore from) good known c = refl
@@ -89,15 +97,20 @@ module _ (file : File) (well : IsWellFormed file) (sound : fault_with (known_fie
   rest_clear : (k : ℕ) (m : Modifier) (mods : List Modifier) → AreClear k (m ∷ mods) → AreClear k mods
   rest_clear k m mods h = record {
     formed = right_of (is_formed_modifier m.what) (list_all (λ x. is_formed_modifier x.what) mods) h.formed;
-    fields_known = second_none (bad_modifier rule.UnknownField file fields k m.what) (first_some (λ x. bad_modifier rule.UnknownField file fields k x.what) mods) h.fields_known;
+    fields_known =
+        second_none (bad_modifier rule.UnknownField file fields k m.what)
+        (first_some (λ x. bad_modifier rule.UnknownField file fields k x.what) mods) h.fields_known;
     no_clash = second_none (clash_in_modifier fields m.what) (first_some (λ x. clash_in_modifier fields x.what) mods) h.no_clash;
   }
 
-  here_clear : (k : ℕ) (p : ModKind → Bool) → ((what : ModKind) → is_formed_modifier what ≡ true → bad_modifier rule.UnknownField file fields k what ≡ None → clash_in_modifier fields what ≡ None → p what ≡ true)
+  here_clear : (k : ℕ) (p : ModKind → Bool)
+      → ((what : ModKind) → is_formed_modifier what ≡ true → bad_modifier rule.UnknownField file fields k what ≡ None
+      → clash_in_modifier fields what ≡ None → p what ≡ true)
       → (m : Modifier) (mods : List Modifier) → AreClear k (m ∷ mods) → p m.what ≡ true
   here_clear k p each m mods h = each m.what
       (left_of (is_formed_modifier m.what) (list_all (λ x. is_formed_modifier x.what) mods) h.formed)
-      (first_none (bad_modifier rule.UnknownField file fields k m.what) (first_some (λ x. bad_modifier rule.UnknownField file fields k x.what) mods) h.fields_known)
+      (first_none (bad_modifier rule.UnknownField file fields k m.what) (first_some (λ x. bad_modifier rule.UnknownField file fields k x.what) mods)
+      h.fields_known)
       (first_none (clash_in_modifier fields m.what) (first_some (λ x. clash_in_modifier fields x.what) mods) h.no_clash)
 
   true_all : (k : ℕ) (mods : List Modifier) → AreClear k mods → list_all part_true (flat_map (λ m. parts_of fields file.openers m.what) mods) ≡ true
@@ -125,10 +138,13 @@ module _ (file : File) (well : IsWellFormed file) (sound : fault_with (known_fie
   unfolding until_of
   true_end k mods h = true_untils k mods h
 
-  opener_clear : (k : ℕ) (o : Opener) → is_formed_opener o ≡ true → bad_opener rule.UnknownField file fields k o ≡ None → clash_in_opener fields o ≡ None → AreClear k o.mods
+  opener_clear : (k : ℕ) (o : Opener) → is_formed_opener o ≡ true → bad_opener rule.UnknownField file fields k o ≡ None
+      → clash_in_opener fields o ≡ None → AreClear k o.mods
   unfolding bad_opener clash_in_opener
   opener_clear k o good known c = record {
-    formed = right_of (of_some (λ name. is_word name.text) o.of) (list_all (λ m. is_formed_modifier m.what) o.mods) (right_of (is_name o.name.text) (of_some (λ name. is_word name.text) o.of && list_all (λ m. is_formed_modifier m.what) o.mods) good);
+    formed =
+        right_of (of_some (λ name. is_word name.text) o.of) (list_all (λ m. is_formed_modifier m.what) o.mods)
+        (right_of (is_name o.name.text) (of_some (λ name. is_word name.text) o.of && list_all (λ m. is_formed_modifier m.what) o.mods) good);
     fields_known = known;
     no_clash = c;
   }
@@ -153,7 +169,8 @@ module _ (file : File) (well : IsWellFormed file) (sound : fault_with (known_fie
   clear_here k d h =
       let zero_so : 0 + k ≡ k = omega arith in
       opener_clear k (get_or file.openers k d) (all_at is_formed_opener file.openers k d h well.openers)
-      (subst (λ (n : ℕ). bad_opener rule.UnknownField file fields n (get_or file.openers k d) ≡ None) zero_so (from_none_at (bad_opener rule.UnknownField file fields) 0 file.openers k d h fields_rule))
+      (subst (λ (n : ℕ). bad_opener rule.UnknownField file fields n (get_or file.openers k d) ≡ None) zero_so
+      (from_none_at (bad_opener rule.UnknownField file fields) 0 file.openers k d h fields_rule))
       (none_at (clash_in_opener fields) file.openers k d h clash_rule)
 
   stage_true : (k : ℕ) (o : Opener) → AreClear k o.mods → is_truth types (stage_of fields file o).cond ≡ true
@@ -168,7 +185,8 @@ module _ (file : File) (well : IsWellFormed file) (sound : fault_with (known_fie
   unfolding negation_of
   negation_true k o h = true_cond k o.mods h
 
-  shown_all : (es : List SynExpr) → list_all is_formed es ≡ true → first_some (bad_expression rule.UnknownField file fields site.Select) es ≡ None → first_some (clash_unless fields want.Value) es ≡ None → list_all (has_sort types want.Value) (map (expr_of fields file.openers) es) ≡ true
+  shown_all : (es : List SynExpr) → list_all is_formed es ≡ true → first_some (bad_expression rule.UnknownField file fields site.Select) es ≡ None
+      → first_some (clash_unless fields want.Value) es ≡ None → list_all (has_sort types want.Value) (map (expr_of fields file.openers) es) ≡ true
   shown_all [] good known c = refl
   shown_all (e ∷ es) good known c =
       both (has_sort types want.Value (expr_of fields file.openers e)) (list_all (has_sort types want.Value) (map (expr_of fields file.openers) es))
@@ -176,18 +194,26 @@ module _ (file : File) (well : IsWellFormed file) (sound : fault_with (known_fie
       (first_none (bad_expression rule.UnknownField file fields site.Select e) (first_some (bad_expression rule.UnknownField file fields site.Select) es) known)
       (first_none (clash_unless fields want.Value e) (first_some (clash_unless fields want.Value) es) c))
       (shown_all es (right_of (is_formed e) (list_all is_formed es) good)
-      (second_none (bad_expression rule.UnknownField file fields site.Select e) (first_some (bad_expression rule.UnknownField file fields site.Select) es) known)
+      (second_none (bad_expression rule.UnknownField file fields site.Select e)
+      (first_some (bad_expression rule.UnknownField file fields site.Select) es) known)
       (second_none (clash_unless fields want.Value e) (first_some (clash_unless fields want.Value) es) c))
 
-  shown_sorted : (es : Option (List SynExpr)) → of_some is_formed_select es ≡ true → bad_shown rule.UnknownField file fields es ≡ None → clash_in_select fields es ≡ None → are_values types (select_of fields file.openers es) ≡ true
+  shown_sorted : (es : Option (List SynExpr)) → of_some is_formed_select es ≡ true → bad_shown rule.UnknownField file fields es ≡ None
+      → clash_in_select fields es ≡ None → are_values types (select_of fields file.openers es) ≡ true
   shown_sorted None good known c = refl
   shown_sorted (Some es) good known c = shown_all es (right_of (nat_le 1 (length es)) (list_all is_formed es) good) known c
 
   pub plan_sorted : HasSorts (plan_with fields file)
   unfolding stages_of negations_of
   plan_sorted = record {
-    conditions = made_of is_positive (stage_of fields file) (λ s. is_truth types s.cond) file.openers (λ k d h _. stage_true k (get_or file.openers k d) (clear_here k d h));
-    untils = made_of is_positive (stage_of fields file) (λ s. if_truth types s.until) file.openers (λ k d h _. stage_ends k (get_or file.openers k d) (clear_here k d h));
-    negations = made_of (λ o. is_negated o.how) (negation_of fields file) (λ s. is_truth types s.cond) file.openers (λ k d h _. negation_true k (get_or file.openers k d) (clear_here k d h));
+    conditions =
+        made_of is_positive (stage_of fields file) (λ s. is_truth types s.cond) file.openers
+        (λ k d h _. stage_true k (get_or file.openers k d) (clear_here k d h));
+    untils =
+        made_of is_positive (stage_of fields file) (λ s. if_truth types s.until) file.openers
+        (λ k d h _. stage_ends k (get_or file.openers k d) (clear_here k d h));
+    negations =
+        made_of (λ o. is_negated o.how) (negation_of fields file) (λ s. is_truth types s.cond) file.openers
+        (λ k d h _. negation_true k (get_or file.openers k d) (clear_here k d h));
     shown = shown_sorted file.select well.shows shown_rule value_rule;
   }

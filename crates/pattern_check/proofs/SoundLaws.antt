@@ -50,7 +50,9 @@ module _ (stages : ℕ) (types : List EventType) where
   sound-Add terms = ap is_chain (terms-items (hidden-the_row-Term-2 terms) ∙ ap (map (λ t. is_sound stages types t.expr)) (items_hidden-the_row-Term-2 terms))
 
   sound-Mul : (factors : List Factor) → is_sound stages types (plan.Mul factors) ≡ is_chain (map (λ f. is_sound stages types f.expr) factors)
-  sound-Mul factors = ap is_chain (factors-items (hidden-the_row-Factor-3 factors) ∙ ap (map (λ f. is_sound stages types f.expr)) (items_hidden-the_row-Factor-3 factors))
+  sound-Mul factors =
+      ap is_chain (factors-items (hidden-the_row-Factor-3 factors)
+      ∙ ap (map (λ f. is_sound stages types f.expr)) (items_hidden-the_row-Factor-3 factors))
 
   sound-Compare : (c : Cmp) (x y : Expr) → is_sound stages types (plan.Compare c x y) ≡ (is_sound stages types x && is_sound stages types y)
   unfolding hidden-the_row-Expr-1 denote.Hole.Carrier.hidden
@@ -68,19 +70,23 @@ module _ (stages : ℕ) (types : List EventType) where
 abbrev pub is_numbered : ℕ → List EventType → List Field → List Opener → Mention → Bool
 is_numbered stages types fields openers (a_field name) = has_field types (field_number fields name.text)
 is_numbered stages types fields openers (a_stage name) = nat_lt (stages_before openers name.text) stages
-is_numbered stages types fields openers (a_stage_field name field) = nat_lt (stages_before openers name.text) stages && has_field types (field_number fields field.text)
+is_numbered stages types fields openers (a_stage_field name field) =
+    nat_lt (stages_before openers name.text) stages && has_field types (field_number fields field.text)
 
 chain : (n : ℕ) (made : List Bool) → n ≡ length made → nat_le 2 n ≡ true → list_all (λ b. b) made ≡ true → is_chain made ≡ true
 chain n made same long fine = both (nat_le 2 (length made)) (list_all (λ b. b) made) (subst (λ (k : ℕ). nat_le 2 k ≡ true) same long) fine
 
 module _ {A : Type 0} (first : Bool) (ts : List (A × Bool)) (e : formed.is_chain (first ∷ map (λ t. t.1) ts) ≡ true) where
   pairs_long : nat_le 2 (suc (length ts)) ≡ true
-  pairs_long = subst (λ (n : ℕ). nat_le 2 (suc n) ≡ true) (length-map ts (λ (t : A × Bool). t.1)) (left_of (nat_le 2 (suc (length (map (λ t. t.1) ts)))) (first && list_all (λ b. b) (map (λ t. t.1) ts)) e)
+  pairs_long =
+      subst (λ (n : ℕ). nat_le 2 (suc n) ≡ true) (length-map ts (λ (t : A × Bool). t.1))
+      (left_of (nat_le 2 (suc (length (map (λ t. t.1) ts)))) (first && list_all (λ b. b) (map (λ t. t.1) ts)) e)
 
   pairs_fine : (first && list_all (λ t. t.1) ts) ≡ true
   pairs_fine =
       let fine = right_of (nat_le 2 (suc (length (map (λ t. t.1) ts)))) (first && list_all (λ b. b) (map (λ t. t.1) ts)) e in
-      both first (list_all (λ t. t.1) ts) (left_of first (list_all (λ b. b) (map (λ t. t.1) ts)) fine) (sym (list_all-map (λ b. b) (λ (t : A × Bool). t.1) ts) ∙ right_of first (list_all (λ b. b) (map (λ t. t.1) ts)) fine)
+      both first (list_all (λ t. t.1) ts) (left_of first (list_all (λ b. b) (map (λ t. t.1) ts)) fine)
+      (sym (list_all-map (λ b. b) (λ (t : A × Bool). t.1) ts) ∙ right_of first (list_all (λ b. b) (map (λ t. t.1) ts)) fine)
 
 sum_long : (ts : List (Bool × Bool)) → formed.is_sum ts ≡ true → nat_le 2 (length ts) ≡ true
 sum_long [] e = absurd (cc)
@@ -112,16 +118,19 @@ module _ (stages : ℕ) (types : List EventType) (fields : List Field) (openers 
   length-parts end_of-SynExpr = refl
   length-parts (more_of-SynExpr place node row) = ap suc (length-parts row)
 
-  length-terms : {n : _} (row : Row_of-SynTerm n) → length (formed_terms row) ≡ length (map (λ t. is_sound stages types t.expr) (terms_of_row fields openers row))
+  length-terms : {n : _} (row : Row_of-SynTerm n)
+      → length (formed_terms row) ≡ length (map (λ t. is_sound stages types t.expr) (terms_of_row fields openers row))
   length-terms end_of-SynTerm = refl
   length-terms (more_of-SynTerm minus place node row) = ap suc (length-terms row)
 
-  length-factors : {n : _} (row : Row_of-SynFactor n) → length (formed_factors row) ≡ length (map (λ f. is_sound stages types f.expr) (factors_of_row fields openers row))
+  length-factors : {n : _} (row : Row_of-SynFactor n)
+      → length (formed_factors row) ≡ length (map (λ f. is_sound stages types f.expr) (factors_of_row fields openers row))
   length-factors end_of-SynFactor = refl
   length-factors (more_of-SynFactor how place node row) = ap suc (length-factors row)
 
   mutual
-    pub sound_node : (node : SynNode) → is_formed_node node ≡ true → numbered (mentions_of_node node) ≡ true → is_sound stages types (expr_of_node fields openers node) ≡ true
+    pub sound_node : (node : SynNode) → is_formed_node node ≡ true → numbered (mentions_of_node node) ≡ true
+        → is_sound stages types (expr_of_node fields openers node) ≡ true
     sound_node (Int n) e h = refl
     sound_node (Text t) e h = refl
     sound_node (Truth b) e h = refl
@@ -154,27 +163,35 @@ module _ (stages : ℕ) (types : List EventType) (fields : List Field) (openers 
     sound_node (Not' _ x) e h = sound-Not stages types (only (exprs_of_row fields openers x)) ∙ sound_only x e h
     sound_node (Neg' _ x) e h = sound-Neg stages types (only (exprs_of_row fields openers x)) ∙ sound_only x e h
 
-    sound_row : {n : _} (row : Row_of-SynExpr n) → list_all (λ b. b) (formed_parts row) ≡ true → numbered (mentions_of_parts row) ≡ true → list_all (λ b. b) (map (is_sound stages types) (exprs_of_row fields openers row)) ≡ true
+    sound_row : {n : _} (row : Row_of-SynExpr n) → list_all (λ b. b) (formed_parts row) ≡ true → numbered (mentions_of_parts row) ≡ true
+        → list_all (λ b. b) (map (is_sound stages types) (exprs_of_row fields openers row)) ≡ true
     sound_row end_of-SynExpr e h = refl
     sound_row (more_of-SynExpr place node row) e h =
         both (is_sound stages types (expr_of_node fields openers node)) (list_all (λ b. b) (map (is_sound stages types) (exprs_of_row fields openers row)))
         (sound_node node (left_of (is_formed_node node) (list_all (λ b. b) (formed_parts row)) e) (front (mentions_of_node node) (mentions_of_parts row) h))
         (sound_row row (right_of (is_formed_node node) (list_all (λ b. b) (formed_parts row)) e) (back (mentions_of_node node) (mentions_of_parts row) h))
 
-    sound_only : {n : _} (row : Row_of-SynExpr n) → formed.only (formed_parts row) ≡ true → numbered (mentions_of_parts row) ≡ true → is_sound stages types (only (exprs_of_row fields openers row)) ≡ true
+    sound_only : {n : _} (row : Row_of-SynExpr n) → formed.only (formed_parts row) ≡ true → numbered (mentions_of_parts row) ≡ true
+        → is_sound stages types (only (exprs_of_row fields openers row)) ≡ true
     sound_only end_of-SynExpr e h = refl
     sound_only (more_of-SynExpr place node row) e h = sound_node node e (front (mentions_of_node node) (mentions_of_parts row) h)
 
-    sound_sum : {n : _} (row : Row_of-SynTerm n) → list_all (λ t. t.1) (formed_terms row) ≡ true → numbered (mentions_of_terms row) ≡ true → list_all (λ b. b) (map (λ t. is_sound stages types t.expr) (terms_of_row fields openers row)) ≡ true
+    sound_sum : {n : _} (row : Row_of-SynTerm n) → list_all (λ t. t.1) (formed_terms row) ≡ true → numbered (mentions_of_terms row) ≡ true
+        → list_all (λ b. b) (map (λ t. is_sound stages types t.expr) (terms_of_row fields openers row)) ≡ true
     sound_sum end_of-SynTerm e h = refl
     sound_sum (more_of-SynTerm minus place node row) e h =
-        both (is_sound stages types (expr_of_node fields openers node)) (list_all (λ b. b) (map (λ t. is_sound stages types t.expr) (terms_of_row fields openers row)))
+        both (is_sound stages types (expr_of_node fields openers node))
+        (list_all (λ b. b) (map (λ t. is_sound stages types t.expr) (terms_of_row fields openers row)))
         (sound_node node (left_of (is_formed_node node) (list_all (λ t. t.1) (formed_terms row)) e) (front (mentions_of_node node) (mentions_of_terms row) h))
         (sound_sum row (right_of (is_formed_node node) (list_all (λ t. t.1) (formed_terms row)) e) (back (mentions_of_node node) (mentions_of_terms row) h))
 
-    sound_product : {n : _} (row : Row_of-SynFactor n) → list_all (λ t. t.1) (formed_factors row) ≡ true → numbered (mentions_of_factors row) ≡ true → list_all (λ b. b) (map (λ f. is_sound stages types f.expr) (factors_of_row fields openers row)) ≡ true
+    sound_product : {n : _} (row : Row_of-SynFactor n) → list_all (λ t. t.1) (formed_factors row) ≡ true → numbered (mentions_of_factors row) ≡ true
+        → list_all (λ b. b) (map (λ f. is_sound stages types f.expr) (factors_of_row fields openers row)) ≡ true
     sound_product end_of-SynFactor e h = refl
     sound_product (more_of-SynFactor how place node row) e h =
-        both (is_sound stages types (expr_of_node fields openers node)) (list_all (λ b. b) (map (λ f. is_sound stages types f.expr) (factors_of_row fields openers row)))
-        (sound_node node (left_of (is_formed_node node) (list_all (λ t. t.1) (formed_factors row)) e) (front (mentions_of_node node) (mentions_of_factors row) h))
-        (sound_product row (right_of (is_formed_node node) (list_all (λ t. t.1) (formed_factors row)) e) (back (mentions_of_node node) (mentions_of_factors row) h))
+        both (is_sound stages types (expr_of_node fields openers node))
+        (list_all (λ b. b) (map (λ f. is_sound stages types f.expr) (factors_of_row fields openers row)))
+        (sound_node node (left_of (is_formed_node node) (list_all (λ t. t.1) (formed_factors row)) e)
+        (front (mentions_of_node node) (mentions_of_factors row) h))
+        (sound_product row (right_of (is_formed_node node) (list_all (λ t. t.1) (formed_factors row)) e)
+        (back (mentions_of_node node) (mentions_of_factors row) h))

@@ -19,10 +19,12 @@ counted : (b : Bool) (o : Opener) (m : ℕ) (rest : List Opener) → m < length 
 counted true o m rest h = let k : 1 + m < suc (length rest) = omega arith in k
 counted false o m rest h = omega arith
 
-pub found_positive : (openers : List Opener) (j : ℕ) → is_positive_one (slice_get openers j) ≡ true → count_by is_positive (take j openers) < length (filter is_positive openers)
+pub found_positive : (openers : List Opener) (j : ℕ) → is_positive_one (slice_get openers j) ≡ true
+    → count_by is_positive (take j openers) < length (filter is_positive openers)
 found_positive [] j e = absurd (cc)
 found_positive (o ∷ openers) zero e =
-    subst (λ (b : Bool). 0 < length (cond b (o ∷ filter is_positive openers) (filter is_positive openers))) (sym e) (let h : 0 < suc (length (filter is_positive openers)) = omega arith in h)
+    subst (λ (b : Bool). 0 < length (cond b (o ∷ filter is_positive openers) (filter is_positive openers))) (sym e)
+    (let h : 0 < suc (length (filter is_positive openers)) = omega arith in h)
 found_positive (o ∷ openers) (suc j) e =
     subst (λ (m : ℕ). m < length (cond (is_positive o) (o ∷ filter is_positive openers) (filter is_positive openers)))
     (sym (sum_by-cons (λ (x : Opener). cond (is_positive x) 1 0) o (take j openers)))

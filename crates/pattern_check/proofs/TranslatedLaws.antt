@@ -26,7 +26,8 @@ module _ (fields : List Field) (openers : List Opener) where
   factors-items : {n : _} (row : Row_of-SynFactor n) → factors_of_row fields openers row ≡ map (factor_of fields openers) (items-the_row-SynFactor n row)
   unfolding expr_of
   factors-items end_of-SynFactor = refl
-  factors-items (more_of-SynFactor how place node row) = ap (λ later. factor_of fields openers (record { how = how; expr = record { place = place; node = node } }) ∷ later) (factors-items row)
+  factors-items (more_of-SynFactor how place node row) =
+      ap (λ later. factor_of fields openers (record { how = how; expr = record { place = place; node = node } }) ∷ later) (factors-items row)
 
   is-made : (e : SynExpr) → expr_of fields openers e ≡ expr_of_node fields openers e.node
   unfolding expr_of
@@ -38,21 +39,29 @@ module _ (fields : List Field) (openers : List Opener) where
   from_node : (e : SynExpr) (node : SynNode) → e.node ≡ node → expr_of_node fields openers node ≡ expr_of fields openers e
   from_node e node is = ap (expr_of_node fields openers) (sym is) ∙ sym (is-made e)
 
-  pub made-Any : (e : SynExpr) (parts slice : List SynExpr) → e.node ≡ Any parts → slice ≡ parts → plan.Any (map (expr_of fields openers) slice) ≡ expr_of fields openers e
+  pub made-Any : (e : SynExpr) (parts slice : List SynExpr) → e.node ≡ Any parts → slice ≡ parts
+      → plan.Any (map (expr_of fields openers) slice) ≡ expr_of fields openers e
   made-Any e parts slice is same = ap plan.Any (ap (map (expr_of fields openers)) same ∙ sym (parts-hidden parts)) ∙ from_node e (Any parts) is
 
-  pub made-All : (e : SynExpr) (parts slice : List SynExpr) → e.node ≡ All parts → slice ≡ parts → plan.All (map (expr_of fields openers) slice) ≡ expr_of fields openers e
+  pub made-All : (e : SynExpr) (parts slice : List SynExpr) → e.node ≡ All parts → slice ≡ parts
+      → plan.All (map (expr_of fields openers) slice) ≡ expr_of fields openers e
   made-All e parts slice is same = ap plan.All (ap (map (expr_of fields openers)) same ∙ sym (parts-hidden parts)) ∙ from_node e (All parts) is
 
-  pub made-Add : (e : SynExpr) (terms slice : List SynTerm) → e.node ≡ Add terms → slice ≡ terms → plan.Add (map (term_of fields openers) slice) ≡ expr_of fields openers e
+  pub made-Add : (e : SynExpr) (terms slice : List SynTerm) → e.node ≡ Add terms → slice ≡ terms
+      → plan.Add (map (term_of fields openers) slice) ≡ expr_of fields openers e
   made-Add e terms slice is same =
-      ap plan.Add (ap (map (term_of fields openers)) (same ∙ sym (items_hidden-the_row-SynTerm-2 terms)) ∙ sym (terms-items (hidden-the_row-SynTerm-2 terms))) ∙ from_node e (Add terms) is
+      ap plan.Add (ap (map (term_of fields openers)) (same ∙ sym (items_hidden-the_row-SynTerm-2 terms))
+      ∙ sym (terms-items (hidden-the_row-SynTerm-2 terms))) ∙ from_node e (Add terms) is
 
-  pub made-Mul : (e : SynExpr) (factors slice : List SynFactor) → e.node ≡ Mul factors → slice ≡ factors → plan.Mul (map (factor_of fields openers) slice) ≡ expr_of fields openers e
+  pub made-Mul : (e : SynExpr) (factors slice : List SynFactor) → e.node ≡ Mul factors → slice ≡ factors
+      → plan.Mul (map (factor_of fields openers) slice) ≡ expr_of fields openers e
   made-Mul e factors slice is same =
-      ap plan.Mul (ap (map (factor_of fields openers)) (same ∙ sym (items_hidden-the_row-SynFactor-3 factors)) ∙ sym (factors-items (hidden-the_row-SynFactor-3 factors))) ∙ from_node e (Mul factors) is
+      ap plan.Mul (ap (map (factor_of fields openers)) (same ∙ sym (items_hidden-the_row-SynFactor-3 factors))
+      ∙ sym (factors-items (hidden-the_row-SynFactor-3 factors))) ∙ from_node e (Mul factors) is
 
-  of-Compare : (c : Cmp) (x y : SynExpr) → expr_of_node fields openers (Compare c x y) ≡ plan.Compare (cmp_of c) (expr_of_node fields openers x.node) (expr_of_node fields openers y.node)
+  of-Compare : (c : Cmp) (x y : SynExpr)
+      → expr_of_node fields openers (Compare c x y)
+      ≡ plan.Compare (cmp_of c) (expr_of_node fields openers x.node) (expr_of_node fields openers y.node)
   unfolding hidden-the_row-SynExpr-1 denote.Hole.Carrier.hidden
   of-Compare c x y = refl
 
@@ -64,7 +73,8 @@ module _ (fields : List Field) (openers : List Opener) where
   unfolding hidden-the_row-SynExpr-1 denote.Hole.Carrier.hidden
   of-Neg x = refl
 
-  pub made-Compare : (e : SynExpr) (c : Cmp) (x y z w : SynExpr) → e.node ≡ Compare c x y → z ≡ x → w ≡ y → plan.Compare (cmp_of c) (expr_of fields openers z) (expr_of fields openers w) ≡ expr_of fields openers e
+  pub made-Compare : (e : SynExpr) (c : Cmp) (x y z w : SynExpr) → e.node ≡ Compare c x y → z ≡ x → w ≡ y
+      → plan.Compare (cmp_of c) (expr_of fields openers z) (expr_of fields openers w) ≡ expr_of fields openers e
   made-Compare e c x y z w is left right =
       (λ i. plan.Compare (cmp_of c) (expr_of fields openers (left i)) (expr_of fields openers (right i)))
       ∙ (λ i. plan.Compare (cmp_of c) (is-made x i) (is-made y i)) ∙ sym (of-Compare c x y) ∙ from_node e (Compare c x y) is

@@ -60,12 +60,14 @@ found_step modifier.Optional h b e here later = later e
 found_step modifier.Consecutive h b e here later = later e
 found_step modifier.AllowCombinations h b e here later = later e
 
-loop_found : (b : Bool) (mods : List Modifier) (d : Modifier) → ((j : ℕ) → j < length mods → is_loop (get_or mods j d).what ≡ true → b ≡ false) → has role.OpenLoop mods ≡ true → b ≡ false
+loop_found : (b : Bool) (mods : List Modifier) (d : Modifier) → ((j : ℕ) → j < length mods → is_loop (get_or mods j d).what ≡ true → b ≡ false)
+    → has role.OpenLoop mods ≡ true → b ≡ false
 loop_found b [] d each e = absurd (cc)
 loop_found b (m ∷ mods) d each e =
     found_step m.what (has role.OpenLoop mods) b e (each 0 (omega arith)) (loop_found b mods d (λ j h. each (suc j) (omega arith)))
 
-bounds_step : (what : ModKind) (h : Bool) (rest : Option (ℕ × Option ℕ)) → (is_open_loop what || h) ≡ true → (h ≡ true → is_loop what ≡ false) → (h ≡ true → (unwrap_or rest (1, Some 1)).1 ≡ None) → (unwrap_or (or_else (bounds_in what) rest) (1, Some 1)).1 ≡ None
+bounds_step : (what : ModKind) (h : Bool) (rest : Option (ℕ × Option ℕ)) → (is_open_loop what || h) ≡ true → (h ≡ true → is_loop what ≡ false)
+    → (h ≡ true → (unwrap_or rest (1, Some 1)).1 ≡ None) → (unwrap_or (or_else (bounds_in what) rest) (1, Some 1)).1 ≡ None
 bounds_step (modifier.TimesOrMore from) h rest e none later = refl
 bounds_step modifier.OneOrMore h rest e none later = refl
 bounds_step (modifier.Times from to) h rest e none later = let no = none e in absurd (cc)
@@ -75,7 +77,8 @@ bounds_step modifier.Optional h rest e none later = later e
 bounds_step modifier.Consecutive h rest e none later = later e
 bounds_step modifier.AllowCombinations h rest e none later = later e
 
-open_bounds : (mods : List Modifier) → HasOneLoop mods → has role.OpenLoop mods ≡ true → (unwrap_or (first_some (λ m. bounds_in m.what) mods) (1, Some 1)).1 ≡ None
+open_bounds : (mods : List Modifier) → HasOneLoop mods → has role.OpenLoop mods ≡ true
+    → (unwrap_or (first_some (λ m. bounds_in m.what) mods) (1, Some 1)).1 ≡ None
 open_bounds [] h e = absurd (cc)
 open_bounds (m ∷ mods) h e =
     bounds_step m.what (has role.OpenLoop mods) (first_some (λ x. bounds_in x.what) mods) e
@@ -108,9 +111,12 @@ module _ (fields : List Field) (openers : List Opener) where
 
   ends_if : (b : Bool) (mods : List Modifier) → cond b None (first_of role.Until mods) ≡ None → (b ≡ true → (bounds_of mods).1 ≡ None)
       → ends_open_loop (first_some (λ m. until_in fields openers m.what) mods) (option_map times (bounds_of mods).1) ≡ true
-  ends_if true mods e none = ap (λ greatest. ends_open_loop (first_some (λ m. until_in fields openers m.what) mods) (option_map times greatest)) (none refl) ∙ never_ends (first_some (λ m. until_in fields openers m.what) mods)
+  ends_if true mods e none =
+      ap (λ greatest. ends_open_loop (first_some (λ m. until_in fields openers m.what) mods) (option_map times greatest)) (none refl)
+      ∙ never_ends (first_some (λ m. until_in fields openers m.what) mods)
   ends_if false mods e none = ap (λ until. ends_open_loop until (option_map times (bounds_of mods).1)) (no_untils mods e)
 
-  pub until_open : (o : Opener) → twice_quantifier o ≡ None → until_without_open_loop o ≡ None → ends_open_loop (until_of fields openers o.mods) (option_map times (bounds_of o.mods).1) ≡ true
+  pub until_open : (o : Opener) → twice_quantifier o ≡ None → until_without_open_loop o ≡ None
+      → ends_open_loop (until_of fields openers o.mods) (option_map times (bounds_of o.mods).1) ≡ true
   unfolding until_of
   until_open o once e = ends_if (has role.OpenLoop o.mods) o.mods e (open_bounds o.mods (one_loop_of o.mods once))

@@ -1,4 +1,5 @@
--- The numbers that stand for names in a plan. Numbers of types, fields and stages count from 0, those of stages the positive ones alone. This is this project's own.
+-- The numbers that stand for names in a plan. Numbers of types, fields and stages count from 0, those of stages the positive ones alone. This is this
+-- project's own.
 use Rattle.std.specs.Prelude.{ℕ, ℤ, pos, min, Bool, not, List, take, Option, Some, None}
 use Rattle.std.specs.List.{count_by}
 use Rattle.cep_event.specs.declared.event.Field.{Field}

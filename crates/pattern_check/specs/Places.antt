@@ -1,4 +1,5 @@
--- Where negations, ends of loops and mentions of stages may stand in a plan. It speaks of plans alone. That `until` asks for an open loop, and that a condition sees what was taken before, is the FlinkCEP chapter of the Flink manual's; the rest is this project's own.
+-- Where negations, ends of loops and mentions of stages may stand in a plan. It speaks of plans alone. That `until` asks for an open loop, and that a
+-- condition sees what was taken before, is the FlinkCEP chapter of the Flink manual's; the rest is this project's own.
 use Rattle.std.specs.Prelude.{◌≡◌, ℕ, suc, Bool, true, false, not, ◌&&◌, nat_lt, List, [], ◌∷◌, length, Option, Some, None}
 use Rattle.std.specs.List.{list_all, slice_get}
 use Rattle.cep_event.specs.declared.event.EventType.{EventType}
@@ -21,7 +22,8 @@ abbrev pub see_no_later : ℕ → List EventType → List Stage → Bool
 see_no_later n types [] = true
 see_no_later n types (s ∷ stages) = sees (suc n) types s && see_no_later (suc n) types stages
 
--- No negation stands behind the last stage, and none behind a stage that may be left out. `until` stands on loops that have no greatest number of events. A condition names no stage after its own, that of a negation none after the one that it stands behind.
+-- No negation stands behind the last stage, and none behind a stage that may be left out. `until` stands on loops that have no greatest number of
+-- events. A condition names no stage after its own, that of a negation none after the one that it stands behind.
 pub record IsPlaced (plan : Plan) : Type 0 where
   pub before_last : list_all (λ n. nat_lt (suc n.after) (length plan.stages)) plan.negations ≡ true
   pub behind_fixed : list_all (λ n. not (is_optional (slice_get plan.stages n.after))) plan.negations ≡ true

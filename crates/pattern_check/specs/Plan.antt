@@ -1,4 +1,5 @@
--- The plan of a file: what an accepted file says, with numbers in place of names. The contiguities, loops and skip strategies are those of the FlinkCEP chapter of the Flink manual.
+-- The plan of a file: what an accepted file says, with numbers in place of names. The contiguities, loops and skip strategies are those of the
+-- FlinkCEP chapter of the Flink manual.
 use Rattle.std.specs.Prelude.{ℕ, ◌-◌, Bool, true, false, List, map, Option, Some, None, if◌then◌else◌}
 use Rattle.std.specs.List.{filter}
 use Rattle.std.specs.Option.{option_map}

@@ -1,5 +1,6 @@
 -- Which kinds the operands of a plan's expressions have. It speaks of plans alone, and is this project's own.
--- The parts of an expression stand in rows: `end_of-Expr` is the empty row, `more_of-Expr x parts` has x before the others, and the sign `_` before a row is its shape, which says nothing of the parts.
+-- The parts of an expression stand in rows: `end_of-Expr` is the empty row, `more_of-Expr x parts` has x before the others, and the sign `_` before a
+-- row is its shape, which says nothing of the parts.
 use Rattle.std.specs.Prelude.{◌≡◌, ℕ, Bool, true, ◌&&◌, ◌==◌, List, Option, Some, None, if◌then◌else◌}
 use Rattle.std.specs.List.{list_all}
 use Rattle.cep_event.specs.declared.event.Field.{Field}

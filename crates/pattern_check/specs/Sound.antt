@@ -1,5 +1,7 @@
--- When the expressions of a plan are sound: each number names a stage or a field that the plan has, and each chain has two parts or more. It speaks of plans alone, and is this project's own.
--- The parts of an expression stand in rows: `end_of-Expr` is the empty row, `more_of-Expr x parts` has x before the others, and the sign `_` before a row is its shape, which says nothing of the parts.
+-- When the expressions of a plan are sound: each number names a stage or a field that the plan has, and each chain has two parts or more. It speaks
+-- of plans alone, and is this project's own.
+-- The parts of an expression stand in rows: `end_of-Expr` is the empty row, `more_of-Expr x parts` has x before the others, and the sign `_` before a
+-- row is its shape, which says nothing of the parts.
 use Rattle.std.specs.Prelude.{◌≡◌, ℕ, Bool, true, false, ◌&&◌, ◌==◌, nat_lt, nat_le, List, [], ◌∷◌, length, Option, Some, None}
 use Rattle.std.specs.List.{list_all, list_any}
 use Rattle.cep_event.specs.declared.event.EventType.{EventType}

@@ -1,5 +1,6 @@
 -- The expression of a plan that an expression of a file stands for: the same, with numbers in place of names. This is this project's own.
--- The parts of an expression stand in rows: `end_of-SynExpr` is the empty row, `more_of-SynExpr place node parts` has an expression before the others, and the sign `_` before a row is its shape, which says nothing of the parts.
+-- The parts of an expression stand in rows: `end_of-SynExpr` is the empty row, `more_of-SynExpr place node parts` has an expression before the
+-- others, and the sign `_` before a row is its shape, which says nothing of the parts.
 use Rattle.std.specs.Prelude.{false, List, [], ◌∷◌}
 use Rattle.cep_event.specs.declared.event.Field.{Field}
 use Rattle.cep_plan.specs.declared.condition.Agg.{Agg}
@@ -80,11 +81,13 @@ abbrev mutual
 
   pub terms_of_row : {n : _} → List Field → List Opener → Row_of-SynTerm n → List Term
   terms_of_row fields openers end_of-SynTerm = []
-  terms_of_row fields openers (more_of-SynTerm minus place node terms) = record { minus = minus; expr = expr_of_node fields openers node } ∷ terms_of_row fields openers terms
+  terms_of_row fields openers (more_of-SynTerm minus place node terms) =
+      record { minus = minus; expr = expr_of_node fields openers node } ∷ terms_of_row fields openers terms
 
   pub factors_of_row : {n : _} → List Field → List Opener → Row_of-SynFactor n → List Factor
   factors_of_row fields openers end_of-SynFactor = []
-  factors_of_row fields openers (more_of-SynFactor way place node factors) = record { how = how_of way; expr = expr_of_node fields openers node } ∷ factors_of_row fields openers factors
+  factors_of_row fields openers (more_of-SynFactor way place node factors) =
+      record { how = how_of way; expr = expr_of_node fields openers node } ∷ factors_of_row fields openers factors
 
 unfoldable pub expr_of : List Field → List Opener → SynExpr → Expr
 expr_of fields openers e = expr_of_node fields openers e.node

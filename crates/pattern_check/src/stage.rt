@@ -114,7 +114,8 @@ fn add_stage(
 ) -> Result<(), NoMemory>
     requires few { length file.now.openers ≤ 64 }
     requires few_types { length file.now.types ≤ 65535 }
-    ensures { OnOk result (stages.new ≡ (if numbers.is_positive opener.now then stages.old ++ spec.stage_of fields.now file.now opener.now ∷ [] else stages.old)) }
+    ensures { OnOk result (stages.new
+        ≡ (if numbers.is_positive opener.now then stages.old ++ spec.stage_of fields.now file.now opener.now ∷ [] else stages.old)) }
 {
     if is_positive(opener) {
         let stage = stage_of(alloc, fields, file, opener)?;
@@ -148,7 +149,8 @@ fn add_negation(
 ) -> Result<(), NoMemory>
     requires few { length file.now.openers ≤ 64 }
     requires few_types { length file.now.types ≤ 65535 }
-    ensures { OnOk result (negations.new ≡ (if bounds.is_negated opener.now.how then negations.old ++ spec.negation_of fields.now file.now opener.now ∷ [] else negations.old)) }
+    ensures { OnOk result (negations.new
+        ≡ (if bounds.is_negated opener.now.how then negations.old ++ spec.negation_of fields.now file.now opener.now ∷ [] else negations.old)) }
 {
     if is_negated(opener.how) {
         let negation = negation_of(alloc, fields, file, opener)?;

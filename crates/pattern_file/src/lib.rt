@@ -2,7 +2,9 @@
 #![tactic(auto)]
 
 mod fault;
+mod laws;
 mod whole;
 
 pub use fault::PatternFault;
+pub use laws::unique_answers;
 pub use whole::{plan_in, printed_in};

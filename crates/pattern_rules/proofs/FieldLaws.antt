@@ -24,12 +24,14 @@ known_is (f ∷ fields) name = known_step (bytes_eq f.name name) (is_known field
 pub with_known : (fields : List Field) (d : FieldDecl) → is_known fields d.name.text ≡ true → fields ≡ with_field fields d
 with_known fields d e = sym (ap (λ b. cond b fields (fields ++ record { name = d.name.text; number = length fields; kind = d.kind } ∷ [])) e)
 
-pub with_new : (fields : List Field) (d : FieldDecl) → is_known fields d.name.text ≡ false → fields ++ record { name = d.name.text; number = length fields; kind = d.kind } ∷ [] ≡ with_field fields d
+pub with_new : (fields : List Field) (d : FieldDecl) → is_known fields d.name.text ≡ false
+    → fields ++ record { name = d.name.text; number = length fields; kind = d.kind } ∷ [] ≡ with_field fields d
 with_new fields d e = sym (ap (λ b. cond b fields (fields ++ record { name = d.name.text; number = length fields; kind = d.kind } ∷ [])) e)
 
 meaning_more : (fields : List Field) (f : Field) (q : List ℕ) → meaning (fields ++ f ∷ []) q ≡ or_else (meaning fields q) (meaning_if q f)
 meaning_more [] f q = or_else_none (meaning_if q f)
-meaning_more (g ∷ fields) f q = ap (or_else (meaning_if q g)) (meaning_more fields f q) ∙ sym (or_else_assoc (meaning_if q g) (meaning fields q) (meaning_if q f))
+meaning_more (g ∷ fields) f q = ap (or_else (meaning_if q g)) (meaning_more fields f q)
+    ∙ sym (or_else_assoc (meaning_if q g) (meaning fields q) (meaning_if q f))
 
 nothing : (o : Option (ℕ × Kind)) → is_some o ≡ false → o ≡ None
 nothing None e = refl
@@ -39,9 +41,11 @@ by_case : (b : Bool) (o : Option (ℕ × Kind)) (v : ℕ × Kind) → (b ≡ tru
 by_case true o v none = sym (ap (λ p. or_else p (Some v)) (none refl))
 by_case false o v none = sym (or_else_none o)
 
-pub more_indexed : (fields : List Field) (f : Field) (get : List ℕ → Option (ℕ × Kind)) → ((q : List ℕ) → get q ≡ meaning fields q) → is_known fields f.name ≡ false
+pub more_indexed : (fields : List Field) (f : Field) (get : List ℕ → Option (ℕ × Kind)) → ((q : List ℕ) → get q ≡ meaning fields q)
+    → is_known fields f.name ≡ false
     → (q : List ℕ) → update bytes_eq get f.name (Some (f.number, f.kind)) q ≡ meaning (fields ++ f ∷ []) q
 more_indexed fields f get indexed new q =
     let absent : bytes_eq f.name q ≡ true → meaning fields q ≡ None
     = λ e. nothing (meaning fields q) (sym (known_is fields q) ∙ ap (is_known fields) (sym ((bytes_eq-Decides f.name q).0 e)) ∙ new) in
-    ap (cond (bytes_eq f.name q) (Some (f.number, f.kind))) (indexed q) ∙ by_case (bytes_eq f.name q) (meaning fields q) (f.number, f.kind) absent ∙ sym (meaning_more fields f q)
+    ap (cond (bytes_eq f.name q) (Some (f.number, f.kind))) (indexed q) ∙ by_case (bytes_eq f.name q) (meaning fields q) (f.number, f.kind) absent
+    ∙ sym (meaning_more fields f q)

@@ -23,23 +23,27 @@ module _ (fields : List Field) where
   unfolding clash_unless
   is-judged asked e = refl
 
-  parts-items : (asked : Wanted) {n : _} (row : Row_of-SynExpr n) → clash_in_parts fields asked row ≡ first_some (clash_unless fields asked) (items-the_row-SynExpr n row)
+  parts-items : (asked : Wanted) {n : _} (row : Row_of-SynExpr n)
+      → clash_in_parts fields asked row ≡ first_some (clash_unless fields asked) (items-the_row-SynExpr n row)
   unfolding clash_unless
   parts-items asked end_of-SynExpr = refl
   parts-items asked (more_of-SynExpr place node row) = ap (or_else (judged asked place node)) (parts-items asked row)
 
-  terms-items : {n : _} (row : Row_of-SynTerm n) → clash_in_terms fields row ≡ first_some (λ t. clash_unless fields (want.Only sort.Int) t.expr) (items-the_row-SynTerm n row)
+  terms-items : {n : _} (row : Row_of-SynTerm n)
+      → clash_in_terms fields row ≡ first_some (λ t. clash_unless fields (want.Only sort.Int) t.expr) (items-the_row-SynTerm n row)
   unfolding clash_unless
   terms-items end_of-SynTerm = refl
   terms-items (more_of-SynTerm minus place node row) = ap (or_else (judged (want.Only sort.Int) place node)) (terms-items row)
 
-  factors-items : {n : _} (row : Row_of-SynFactor n) → clash_in_factors fields row ≡ first_some (λ f. clash_unless fields (want.Only sort.Int) f.expr) (items-the_row-SynFactor n row)
+  factors-items : {n : _} (row : Row_of-SynFactor n)
+      → clash_in_factors fields row ≡ first_some (λ f. clash_unless fields (want.Only sort.Int) f.expr) (items-the_row-SynFactor n row)
   unfolding clash_unless
   factors-items end_of-SynFactor = refl
   factors-items (more_of-SynFactor how place node row) = ap (or_else (judged (want.Only sort.Int) place node)) (factors-items row)
 
   -- where the expression fits, what counts is what is inside
-  inside : (asked : Wanted) (e : SynExpr) (node : SynNode) → fits asked (sort_of fields e.node) ≡ true → e.node ≡ node → clash_in fields e.place node ≡ clash_unless fields asked e
+  inside : (asked : Wanted) (e : SynExpr) (node : SynNode) → fits asked (sort_of fields e.node) ≡ true → e.node ≡ node
+      → clash_in fields e.place node ≡ clash_unless fields asked e
   inside asked e node fit is =
       ap (clash_in fields e.place) (sym is)
       ∙ sym (ap (λ b. unless b e.place (clash_in fields e.place e.node)) fit)
@@ -63,7 +67,8 @@ module _ (fields : List Field) where
       ap (first_some (λ t. clash_unless fields (want.Only sort.Int) t.expr)) (same ∙ sym (items_hidden-the_row-SynTerm-2 terms))
       ∙ sym (terms-items (hidden-the_row-SynTerm-2 terms)) ∙ inside asked e (Add terms) fit is
 
-  pub clash-Mul : (asked : Wanted) (e : SynExpr) (factors slice : List SynFactor) → fits asked (sort_of fields e.node) ≡ true → e.node ≡ Mul factors → slice ≡ factors
+  pub clash-Mul : (asked : Wanted) (e : SynExpr) (factors slice : List SynFactor) → fits asked (sort_of fields e.node) ≡ true → e.node ≡ Mul factors
+      → slice ≡ factors
       → first_some (λ f. clash_unless fields (want.Only sort.Int) f.expr) slice ≡ clash_unless fields asked e
   clash-Mul asked e factors slice fit is same =
       ap (first_some (λ f. clash_unless fields (want.Only sort.Int) f.expr)) (same ∙ sym (items_hidden-the_row-SynFactor-3 factors))
@@ -85,7 +90,8 @@ module _ (fields : List Field) where
   alone : (asked : Wanted) (x z : SynExpr) → z ≡ x → clash_unless fields asked z ≡ or_else (judged asked x.place x.node) None
   alone asked x z same = ap (clash_unless fields asked) same ∙ is-judged asked x ∙ sym (or_else_none (judged asked x.place x.node))
 
-  pub clash-Compare : (asked : Wanted) (e : SynExpr) (c : Cmp) (x y z w : SynExpr) → fits asked (sort_of fields e.node) ≡ true → e.node ≡ Compare c x y → z ≡ x → w ≡ y
+  pub clash-Compare : (asked : Wanted) (e : SynExpr) (c : Cmp) (x y z w : SynExpr) → fits asked (sort_of fields e.node) ≡ true
+      → e.node ≡ Compare c x y → z ≡ x → w ≡ y
       → or_else (clash_unless fields want.Value z) (clash_unless fields (want.Only (sort_of fields z.node)) w) ≡ clash_unless fields asked e
   clash-Compare asked e c x y z w fit is left right =
       (λ i. or_else (clash_unless fields want.Value (left i)) (clash_unless fields (want.Only (sort_of fields (left i).node)) w))

@@ -34,9 +34,11 @@ module _ (judge : Mention → Option ℕ) where
   terms-items end_of-SynTerm = refl
   terms-items (more_of-SynTerm minus place node row) = two_lists (mentions_of_node node) (mentions_of_terms row) ∙ ap (or_else (found node)) (terms-items row)
 
-  factors-items : {n : _} (row : Row_of-SynFactor n) → first_some judge (mentions_of_factors row) ≡ first_some (λ f. found f.expr.node) (items-the_row-SynFactor n row)
+  factors-items : {n : _} (row : Row_of-SynFactor n)
+      → first_some judge (mentions_of_factors row) ≡ first_some (λ f. found f.expr.node) (items-the_row-SynFactor n row)
   factors-items end_of-SynFactor = refl
-  factors-items (more_of-SynFactor how place node row) = two_lists (mentions_of_node node) (mentions_of_factors row) ∙ ap (or_else (found node)) (factors-items row)
+  factors-items (more_of-SynFactor how place node row) = two_lists (mentions_of_node node) (mentions_of_factors row)
+      ∙ ap (or_else (found node)) (factors-items row)
 
   parts-hidden : (parts : List SynExpr) → first_some judge (mentions_of_parts (hidden-the_row-SynExpr-0 parts)) ≡ first_some (λ e. found e.node) parts
   parts-hidden parts = parts-items (hidden-the_row-SynExpr-0 parts) ∙ ap (first_some (λ e. found e.node)) (items_hidden-the_row-SynExpr-0 parts)
@@ -49,11 +51,14 @@ module _ (judge : Mention → Option ℕ) where
 
   pub mentions-Add : (e : SynExpr) (terms slice : List SynTerm) → e.node ≡ Add terms → slice ≡ terms → first_some (λ t. found t.expr.node) slice ≡ found e.node
   mentions-Add e terms slice is same =
-      ap (first_some (λ t. found t.expr.node)) (same ∙ sym (items_hidden-the_row-SynTerm-2 terms)) ∙ sym (terms-items (hidden-the_row-SynTerm-2 terms)) ∙ sym (ap found is)
+      ap (first_some (λ t. found t.expr.node)) (same ∙ sym (items_hidden-the_row-SynTerm-2 terms))
+      ∙ sym (terms-items (hidden-the_row-SynTerm-2 terms)) ∙ sym (ap found is)
 
-  pub mentions-Mul : (e : SynExpr) (factors slice : List SynFactor) → e.node ≡ Mul factors → slice ≡ factors → first_some (λ f. found f.expr.node) slice ≡ found e.node
+  pub mentions-Mul : (e : SynExpr) (factors slice : List SynFactor) → e.node ≡ Mul factors → slice ≡ factors
+      → first_some (λ f. found f.expr.node) slice ≡ found e.node
   mentions-Mul e factors slice is same =
-      ap (first_some (λ f. found f.expr.node)) (same ∙ sym (items_hidden-the_row-SynFactor-3 factors)) ∙ sym (factors-items (hidden-the_row-SynFactor-3 factors)) ∙ sym (ap found is)
+      ap (first_some (λ f. found f.expr.node)) (same ∙ sym (items_hidden-the_row-SynFactor-3 factors))
+      ∙ sym (factors-items (hidden-the_row-SynFactor-3 factors)) ∙ sym (ap found is)
 
   of-Compare : (c : Cmp) (x y : SynExpr) → found (Compare c x y) ≡ first_some judge ((mentions_of_node x.node ++ []) ++ (mentions_of_node y.node ++ []))
   unfolding hidden-the_row-SynExpr-1 denote.Hole.Carrier.hidden
@@ -70,7 +75,8 @@ module _ (judge : Mention → Option ℕ) where
   one : (xs : List Mention) → first_some judge (xs ++ []) ≡ first_some judge xs
   one xs = two_lists xs [] ∙ or_else_none (first_some judge xs)
 
-  pub mentions-Compare : (e : SynExpr) (c : Cmp) (x y z w : SynExpr) → e.node ≡ Compare c x y → z ≡ x → w ≡ y → or_else (found z.node) (found w.node) ≡ found e.node
+  pub mentions-Compare : (e : SynExpr) (c : Cmp) (x y z w : SynExpr) → e.node ≡ Compare c x y → z ≡ x → w ≡ y
+      → or_else (found z.node) (found w.node) ≡ found e.node
   mentions-Compare e c x y z w is left right =
       (λ i. or_else (found (left i).node) (found (right i).node))
       ∙ (λ i. or_else (sym (one (mentions_of_node x.node)) i) (sym (one (mentions_of_node y.node)) i))

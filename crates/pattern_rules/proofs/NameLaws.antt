@@ -85,7 +85,8 @@ or_len_split : {X : Type 0} (p : X → Bool) (x : X) (xs : List X) (b : Bool) �
 or_len_split p x xs true e = rw e refl
 or_len_split p x xs false e = rw e refl
 
-pub position_or_len_by : {X Y : Type 0} (f : X → Y) (p : Y → Bool) (xs : List X) → position_or_len (λ x. p (f x)) xs ≡ unwrap_or (position p (map f xs)) (length xs)
+pub position_or_len_by : {X Y : Type 0} (f : X → Y) (p : Y → Bool) (xs : List X)
+    → position_or_len (λ x. p (f x)) xs ≡ unwrap_or (position p (map f xs)) (length xs)
 position_or_len_by f p [] = refl
 position_or_len_by f p (x ∷ xs) =
     or_len_split (λ x. p (f x)) x xs (p (f x)) refl
@@ -115,7 +116,8 @@ pub new_name : (names : List (List ℕ)) (name : List ℕ) (get : List ℕ → O
 new_name names name get is new q =
     let absent : bytes_eq name q ≡ true → at q names ≡ None
     = λ e. nothing (at q names) (ap (λ n. is_some (at n names)) (sym ((bytes_eq-Decides name q).0 e)) ∙ new) in
-    ap (cond (bytes_eq name q) (Some (length names))) (is q) ∙ added (bytes_eq name q) (at q names) (length names) absent ∙ sym (position_push (λ other. bytes_eq other q) names name)
+    ap (cond (bytes_eq name q) (Some (length names))) (is q) ∙ added (bytes_eq name q) (at q names) (length names) absent
+    ∙ sym (position_push (λ other. bytes_eq other q) names name)
 
 -- an index with a name that is in the list
 pub known_name : (names : List (List ℕ)) (name : List ℕ) → is_some (at name names) ≡ true → (q : List ℕ) → at q names ≡ at q (names ++ name ∷ [])

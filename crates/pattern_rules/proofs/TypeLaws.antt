@@ -16,12 +16,14 @@ or_false : (b : Bool) → (b || false) ≡ b
 or_false true = refl
 or_false false = refl
 
-more_types : (types : List TypeDecl) (d : TypeDecl) (type name : List ℕ) → has_field (types ++ d ∷ []) type name ≡ (has_field types type name || (bytes_eq d.name.text type && is_declared d.fields name))
+more_types : (types : List TypeDecl) (d : TypeDecl) (type name : List ℕ)
+    → has_field (types ++ d ∷ []) type name ≡ (has_field types type name || (bytes_eq d.name.text type && is_declared d.fields name))
 more_types types d type name =
     list_any-append (λ e. bytes_eq e.name.text type && is_declared e.fields name) types (d ∷ [])
     ∙ ap (λ b. has_field types type name || b) (or_false (bytes_eq d.name.text type && is_declared d.fields name))
 
-by_case : (b : Bool) (set : BTreeSet (String Global)) (o : Option (BTreeSet (String Global))) (name : List ℕ) (held more : Bool) → (b ≡ true → contains_text set name ≡ (held || more)) → holds o name ≡ held
+by_case : (b : Bool) (set : BTreeSet (String Global)) (o : Option (BTreeSet (String Global))) (name : List ℕ) (held more : Bool)
+    → (b ≡ true → contains_text set name ≡ (held || more)) → holds o name ≡ held
     → holds (cond b (Some set) (cond b None o)) name ≡ (held || (b && more))
 by_case true set o name held more here there = here refl
 by_case false set o name held more here there = there ∙ sym (or_false held)
@@ -29,7 +31,8 @@ by_case false set o name held more here there = there ∙ sym (or_false held)
 pub with_type : (types : List TypeDecl) (d : TypeDecl) (get : List ℕ → Option (BTreeSet (String Global))) (set : BTreeSet (String Global))
     → ((type name : List ℕ) → holds (get type) name ≡ has_field types type name)
     → ((name : List ℕ) → contains_text set name ≡ (holds (get d.name.text) name || is_declared d.fields name))
-    → (type name : List ℕ) → holds (update bytes_eq (update bytes_eq get d.name.text None) d.name.text (Some set) type) name ≡ has_field (types ++ d ∷ []) type name
+    → (type name : List ℕ)
+    → holds (update bytes_eq (update bytes_eq get d.name.text None) d.name.text (Some set) type) name ≡ has_field (types ++ d ∷ []) type name
 with_type types d get set is made type name =
     let here : bytes_eq d.name.text type ≡ true → contains_text set name ≡ (has_field types type name || is_declared d.fields name)
     = λ e. made name ∙ ap (λ b. b || is_declared d.fields name) (ap (λ t. holds (get t) name) ((bytes_eq-Decides d.name.text type).0 e) ∙ is type name) in

@@ -1,4 +1,5 @@
--- The distinct names of fields in the order of first declaration, each with its number in that order and the kind that it was first declared with. This is this project's own.
+-- The distinct names of fields in the order of first declaration, each with its number in that order and the kind that it was first declared with.
+-- This is this project's own.
 use Rattle.std.specs.Prelude.{ℕ, Bool, length, List, [], ◌∷◌, ◌++◌, fold, if◌then◌else◌}
 use Rattle.std.specs.List.{list_any}
 use Rattle.std.specs.Str.{bytes_eq}

@@ -1,5 +1,6 @@
 -- Which kinds the operands of an expression must have. This is this project's own.
--- The parts of an expression stand in rows: `end_of-SynExpr` is the empty row, `more_of-SynExpr place node parts` has an expression before the others, and the sign `_` before a row is its shape, which says nothing of the parts.
+-- The parts of an expression stand in rows: `end_of-SynExpr` is the empty row, `more_of-SynExpr place node parts` has an expression before the
+-- others, and the sign `_` before a row is its shape, which says nothing of the parts.
 use Rattle.std.specs.Prelude.{ℕ, Bool, true, false, List, Option, Some, None, if◌then◌else◌}
 use Rattle.cep_event.specs.declared.event.Field.{Field}
 use Rattle.cep_event.specs.declared.value.Kind.{Kind}
@@ -68,7 +69,8 @@ fits want.Value _ = true
 abbrev pub unless : Bool → ℕ → Option ℕ → Option ℕ
 unless does_fit place inside = if does_fit then inside else Some place
 
--- The first operand, in the order of the text, that has not the kind that its operator asks for. The two sides of a comparison are numbers or texts, and the right side is of the left side's kind.
+-- The first operand, in the order of the text, that has not the kind that its operator asks for. The two sides of a comparison are numbers or texts,
+-- and the right side is of the left side's kind.
 abbrev mutual
   pub clash_in : List Field → ℕ → SynNode → Option ℕ
   clash_in fields place (Int n) = None

@@ -1,5 +1,6 @@
 -- What an expression mentions, in the order of its text. This is this project's own.
--- The parts of an expression stand in rows: `end_of-SynExpr` is the empty row, `more_of-SynExpr place node parts` has an expression before the others, and the sign `_` before a row is its shape, which says nothing of the parts.
+-- The parts of an expression stand in rows: `end_of-SynExpr` is the empty row, `more_of-SynExpr place node parts` has an expression before the
+-- others, and the sign `_` before a row is its shape, which says nothing of the parts.
 use Rattle.std.specs.Prelude.{List, [], ◌∷◌, ◌++◌}
 use Rattle.cep_reading.specs.declared.name.Name.{Name}
 use Rattle.cep_expression.specs.declared.expr.SynExpr.{SynExpr}

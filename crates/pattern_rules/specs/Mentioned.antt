@@ -1,4 +1,5 @@
--- Rules of what expressions mention. A condition sees the events that were taken before, as in the FlinkCEP chapter of the Flink manual; which names it may use is this project's own.
+-- Rules of what expressions mention. A condition sees the events that were taken before, as in the FlinkCEP chapter of the Flink manual; which names
+-- it may use is this project's own.
 use Rattle.std.specs.Prelude.{ℕ, Bool, true, false, not, ◌&&◌, nat_lt, List, Option, Some, None, if◌then◌else◌}
 use Rattle.std.specs.List.{list_any, slice_get}
 use Rattle.std.specs.Str.{bytes_eq}

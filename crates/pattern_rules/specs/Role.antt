@@ -1,4 +1,5 @@
--- What a modifier does in its stage. The quantifiers, the modes of loops and `until` are those of the FlinkCEP chapter of the Flink manual; which of them may stand together is this project's own.
+-- What a modifier does in its stage. The quantifiers, the modes of loops and `until` are those of the FlinkCEP chapter of the Flink manual; which of
+-- them may stand together is this project's own.
 use Rattle.std.specs.Prelude.{ℕ, Bool, true, false, not, ◌&&◌, ◌||◌, nat_lt, List, take, Option, Some, None}
 use Rattle.std.specs.List.{list_any}
 use Rattle.cep_syntax.specs.declared.file.ModKind.{ModKind}

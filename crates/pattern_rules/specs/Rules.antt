@@ -1,4 +1,5 @@
--- The rules of a file, in the order in which they are asked: the first that is broken is told, at the first place where it is. The codes are this project's own. A further rule is a further entry.
+-- The rules of a file, in the order in which they are asked: the first that is broken is told, at the first place where it is. The codes are this
+-- project's own. A further rule is a further entry.
 use Rattle.std.specs.Prelude.{ℕ, List, [], ◌∷◌, Option, Some, None}
 use Rattle.cep_event.specs.declared.event.Field.{Field}
 use Rattle.cep_syntax.specs.declared.file.File.{File}

@@ -1,4 +1,5 @@
--- Rules of stages. That a pattern does not end in a negation and has no negation behind an optional stage, which modifiers may stand together and the limits are this project's own.
+-- Rules of stages. That a pattern does not end in a negation and has no negation behind an optional stage, which modifiers may stand together and the
+-- limits are this project's own.
 use Rattle.std.specs.Prelude.{ℕ, ◌+◌, ◌-◌, Bool, false, not, ◌&&◌, nat_lt, List, [], ◌∷◌, take, length, fold, Option, Some, None, if◌then◌else◌}
 use Rattle.std.specs.List.{sum_by, slice_get}
 use Rattle.cep_reading.specs.declared.name.Name.{Name}

@@ -1,57 +1,15 @@
-//! Lists of taken events: copies of them, and lists in the order in which they are told.
-ghost use Rattle.std.specs.Prelude.{◌≡◌, ◌++◌, [], ◌∷◌, IfOk};
+//! Lists of taken events in the order in which they are told.
+ghost use Rattle.std.specs.Prelude.{◌≡◌, IfOk};
 ghost use Rattle.std.specs.List.Sorted.{IsSortedBy, IsPermutation};
 ghost use Rattle.cep_plan.specs.Entry.{entries_in};
 ghost use Rattle.cep_plan.specs.Order.{list_cmp};
 ghost use Rattle.live_laws.specs.Starts.{comes_earlier};
 
-use cep_event::{Event, NoMemory, Sequence};
-use cep_plan::{Taken, TakenList};
+use cep_event::{NoMemory, Sequence};
+use cep_plan::TakenList;
 use std::cmp::Ordering;
 
 pub type TakenLists = Sequence<TakenList>;
-
-/// A copy of a taken event.
-pub fn copied(taken: &Taken) -> Result<Taken, NoMemory>
-    ensures { IfOk result (λ made. made ≡ taken.now) }
-{
-    let event = taken.event.copy()?;
-    Ok(Taken {
-        stage: taken.stage,
-        position: taken.position,
-        event,
-    })
-}
-
-/// A copy of a list.
-pub fn copied_list(list: &TakenList) -> Result<TakenList, NoMemory>
-    ensures { IfOk result (λ made. made ≡ list.now) }
-{
-    let mut copies = list.emptied();
-    for taken in list.as_slice() {
-        copies.push(copied(taken)?)?;
-    }
-    Ok(copies)
-}
-
-/// A copy of the list with the event behind it.
-pub fn extended(
-    list: &TakenList,
-    stage: u16,
-    event: &Event,
-    position: u32,
-) -> Result<TakenList, NoMemory>
-    ensures { IfOk result (λ made. made ≡ list.now ++ record { stage = stage; position = position; event = event.now } ∷ []) }
-{
-    let mut copy = copied_list(list)?;
-    let event = event.copy()?;
-    copy.push(Taken {
-        stage,
-        position,
-        event,
-    })?;
-    Ok(copy)
-}
 
 /// The place of one list in order against another.
 pub fn compare(list: &TakenList, other: &TakenList) -> Ordering

@@ -55,7 +55,8 @@ pub fn is_never_satisfied(plan: &Plan, negation: &Negation, event: &Event) -> bo
 
 /// Whether the negation stands before no step into the stage, or the event doesn't satisfy it, whatever was taken before.
 pub fn is_no_bar(plan: &Plan, stage: u16, negation: &Negation, event: &Event) -> bool
-    ensures { IsTrue result → (list : List Taken) (before : ℕ) → (is_between before stage negation.now && satisfies plan.now list negation.now event.now) ≡ false }
+    ensures { IsTrue result → (list : List Taken) (before : ℕ)
+        → (is_between before stage negation.now && satisfies plan.now list negation.now event.now) ≡ false }
 {
     stage <= negation.after || is_never_satisfied(plan, negation, event)
 }

@@ -38,7 +38,8 @@ each-taking : (Q : List Entry → Type 0) (position : ℕ) → ((w : Waiter) →
 each-taking Q position all [] = tt
 each-taking Q position all (w ∷ ws) = (all w, each-taking Q position all ws)
 
-module _ (plan : Plan) (fit : IsCompilable plan) (nfa : Nfa) (automaton : nfa ≡ automaton_of plan) (events : List Event) (starts : ℕ → Bool) (content : Content) (old : BufferContent) (stands : Stands plan events starts [] content old) where
+module _ (plan : Plan) (fit : IsCompilable plan) (nfa : Nfa) (automaton : nfa ≡ automaton_of plan) (events : List Event) (starts : ℕ → Bool)
+    (content : Content) (old : BufferContent) (stands : Stands plan events starts [] content old) where
   -- the runs can pass
   pub pass-can : CanPass plan events stands.waiters nfa content
   pass-can = record {
@@ -46,13 +47,15 @@ module _ (plan : Plan) (fit : IsCompilable plan) (nfa : Nfa) (automaton : nfa �
     automaton = automaton;
     counted = stands.counted;
     bumps = stands.bumps;
+    empty = stands.empty;
     waiting = waiters-wait plan events starts [] content old stands;
     runs = stands.runs;
   }
 
   module _ (key : ℕ) (row : Standing) (found : slot_at old.events key ≡ Some row) (at : row.position ≡ length events) where
     -- the event is the one that is ahead
-    ahead-is : (ahead : List Event) → length ahead ≤ 1 → HoldsLists plan (events ++ ahead) (both_hold (held_by (map holder_of stands.waiters)) (held_by [])) old → ahead ≡ row.event ∷ []
+    ahead-is : (ahead : List Event) → length ahead ≤ 1
+        → HoldsLists plan (events ++ ahead) (both_hold (held_by (map holder_of stands.waiters)) (held_by [])) old → ahead ≡ row.event ∷ []
     ahead-is [] one has = let below = (has.event_is key row found).0 in absurd (omega (arith, below, at, length-append events []))
     ahead-is (e ∷ []) one has =
         let told = (has.event_is key row found).1 in
@@ -68,7 +71,9 @@ module _ (plan : Plan) (fit : IsCompilable plan) (nfa : Nfa) (automaton : nfa �
         (subst (λ (l : List Event). HoldsLists plan (events ++ l) (both_hold (held_by (map holder_of stands.waiters)) (held_by [])) old) is stands.held)
 
     -- the takes can be put
-    pub puts-can : starts (length events) ≡ true → CanPutAll plan (events ++ row.event ∷ []) (length events) key (filter (is_taking plan events row.event) (first_waiters plan ++ stands.waiters)) (held_by (map holder_of stands.waiters)) old
+    pub puts-can : starts (length events) ≡ true
+        → CanPutAll plan (events ++ row.event ∷ []) (length events) key
+        (filter (is_taking plan events row.event) (first_waiters plan ++ stands.waiters)) (held_by (map holder_of stands.waiters)) old
     puts-can fresh = can_put_all plan fit events row.event starts fresh stands.waiters stands.stand old holds-now key row found at
 
     abbrev takers : List Waiter
@@ -85,17 +90,29 @@ module _ (plan : Plan) (fit : IsCompilable plan) (nfa : Nfa) (automaton : nfa �
 
     -- the runs can be begun
     pub begin-can : (fresh : starts (length events) ≡ true) (grown : List Grown) (buffer after : BufferContent)
-        → (put : HasPutAll plan (events ++ row.event ∷ []) (length events) (filter (is_taking plan events row.event) (first_waiters plan ++ stands.waiters)) (held_by (map holder_of stands.waiters)) grown buffer)
-        → HoldsLists plan (events ++ row.event ∷ []) (both_hold (held_by (map holder_of (filter (goes_on plan events row.event) stands.waiters))) (held_by put.holders)) after
-        → CanBeginAll plan (events ++ row.event ∷ []) nfa put.holders (held_by (map holder_of (filter (goes_on plan events row.event) stands.waiters))) grown after
+        → (put :
+        HasPutAll plan (events ++ row.event ∷ []) (length events)
+        (filter (is_taking plan events row.event) (first_waiters plan ++ stands.waiters)) (held_by (map holder_of stands.waiters)) grown buffer)
+        → HoldsLists plan (events ++ row.event ∷ [])
+        (both_hold (held_by (map holder_of (filter (goes_on plan events row.event) stands.waiters))) (held_by put.holders)) after
+        → CanBeginAll plan (events ++ row.event ∷ []) nfa put.holders
+        (held_by (map holder_of (filter (goes_on plan events row.event) stands.waiters))) grown after
     begin-can fresh grown buffer after put has = record {
       fit = fit;
       automaton = automaton;
       has = has;
       grown_are = put.grown_are;
-      ends = each-listed ends_there put.holders (subst (Each ends_there) (sym put.lists) (each-taking ends_there (length events) (λ w. (record { stage = w.stage; position = length events }, last_or-push None w.list _, omega (arith, length-append events (row.event ∷ [])))) takers));
+      ends =
+          each-listed ends_there put.holders (subst (Each ends_there) (sym put.lists)
+          (each-taking ends_there (length events) (λ w. (
+            record { stage = w.stage; position = length events },
+            last_or-push None w.list _,
+            omega
+                (arith, length-append events (row.event ∷ [])),
+          )) takers));
       new = each-listed not_held put.holders (subst (Each not_held) (sym put.lists) (each-taking not_held (length events) (λ w k.
           new-list plan fit events row.event starts fresh stands.waiters stands.stand w.list w.stage k staying
-          (Each-filter (λ (v : Waiter). AreAmong events v.list) (goes_on plan events row.event) stands.waiters (among plan events starts [] content old stands))) takers));
+          (Each-filter (λ (v : Waiter). AreAmong events v.list) (goes_on plan events row.event) stands.waiters
+          (among plan events starts [] content old stands))) takers));
       apart = subst AllApart (sym put.lists) (puts-can fresh).apart;
     }

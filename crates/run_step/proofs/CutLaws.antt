@@ -20,10 +20,12 @@ use Rattle.run_step.proofs.StepLaws.{filter-of_append}
 use Rattle.run_step.proofs.EndingLaws.{ends_all}
 
 -- what is left between two places, and its first
-pub window : {X : Type 0} (xs : List X) (place end : ℕ) (x : X) → place < end → end ≤ length xs → x ≡ get_or xs place x → take (end - place) (drop place xs) ≡ x ∷ take (end - (place + 1)) (drop (place + 1) xs)
+pub window : {X : Type 0} (xs : List X) (place end : ℕ) (x : X) → place < end → end ≤ length xs → x ≡ get_or xs place x
+    → take (end - place) (drop place xs) ≡ x ∷ take (end - (place + 1)) (drop (place + 1) xs)
 window xs place end x lt le is =
     let count : end - place ≡ suc (end - (place + 1)) = omega (arith, lt) in
-    ap (λ n. take n (drop place xs)) count ∙ ap (take (suc (end - (place + 1)))) (drop_more xs place x (omega (arith, lt, le)) ∙ ap (λ y. y ∷ drop (place + 1) xs) (sym is))
+    ap (λ n. take n (drop place xs)) count
+    ∙ ap (take (suc (end - (place + 1)))) (drop_more xs place x (omega (arith, lt, le)) ∙ ap (λ y. y ∷ drop (place + 1) xs) (sym is))
 
 pub take-none : {X : Type 0} (xs : List X) (n : ℕ) → n ≡ 0 → take n xs ≡ []
 take-none [] zero e = refl
@@ -40,11 +42,13 @@ drop-nil zero = refl
 drop-nil (suc n) = refl
 
 -- the place of one start and that of another one
-pub places : (runs : List Run) (first end from to : ℕ) → from ≤ to → first ≤ length runs → Each (λ (r : Run). r.start < from) (take first runs) → Each (λ (r : Run). to ≤ r.start) (drop end runs) → first ≤ end
+pub places : (runs : List Run) (first end from to : ℕ) → from ≤ to → first ≤ length runs → Each (λ (r : Run). r.start < from) (take first runs)
+    → Each (λ (r : Run). to ≤ r.start) (drop end runs) → first ≤ end
 places [] first end from to le bound before behind = omega (arith, bound)
 places (run ∷ runs) zero end from to le bound before behind = omega arith
 places (run ∷ runs) (suc first) zero from to le bound before behind = absurd (omega (arith, le, before.0, behind.0))
-places (run ∷ runs) (suc first) (suc end) from to le bound before behind = let later = places runs first end from to le (omega (arith, bound)) before.1 behind in omega (arith, later)
+places (run ∷ runs) (suc first) (suc end) from to le bound before behind =
+    let later = places runs first end from to le (omega (arith, bound)) before.1 behind in omega (arith, later)
 
 module _ (from to : ℕ) where
   abbrev cuts : Run → Bool
@@ -62,39 +66,50 @@ module _ (from to : ℕ) where
   between : (p : ℕ) → from ≤ p → p < to → is_from from to p ≡ true
   between p le lt = λ i. le-leb from p le i && lt-ltb p to lt i
 
-  cut-front : (runs : List Run) (n : ℕ) → Each (λ (r : Run). from ≤ r.start) runs → Each (λ (r : Run). r.start < to) (take n runs) → Each (λ (r : Run). to ≤ r.start) (drop n runs) → filter cuts runs ≡ take n runs
+  cut-front : (runs : List Run) (n : ℕ) → Each (λ (r : Run). from ≤ r.start) runs → Each (λ (r : Run). r.start < to) (take n runs)
+      → Each (λ (r : Run). to ≤ r.start) (drop n runs) → filter cuts runs ≡ take n runs
   cut-front [] n a b c = sym (take-nil n)
-  cut-front (r ∷ runs) zero a b c = filter-none cuts (r ∷ runs) (Each-mapped (λ (s : Run). to ≤ s.start) (λ s. cuts s ≡ false) (λ s le. behind s.start le) (r ∷ runs) c)
-  cut-front (r ∷ runs) (suc n) a b c = ap (λ k. cond k (r ∷ filter cuts runs) (filter cuts runs)) (between r.start a.0 b.0) ∙ ap (λ l. r ∷ l) (cut-front runs n a.1 b.1 c)
+  cut-front (r ∷ runs) zero a b c =
+      filter-none cuts (r ∷ runs) (Each-mapped (λ (s : Run). to ≤ s.start) (λ s. cuts s ≡ false) (λ s le. behind s.start le) (r ∷ runs) c)
+  cut-front (r ∷ runs) (suc n) a b c = ap (λ k. cond k (r ∷ filter cuts runs) (filter cuts runs)) (between r.start a.0 b.0)
+      ∙ ap (λ l. r ∷ l) (cut-front runs n a.1 b.1 c)
 
   -- the runs that start in the range
-  pub cut-runs : (runs : List Run) (first n end : ℕ) → end ≡ n + first → Each (λ (r : Run). r.start < from) (take first runs) → Each (λ (r : Run). from ≤ r.start) (drop first runs)
+  pub cut-runs : (runs : List Run) (first n end : ℕ) → end ≡ n + first → Each (λ (r : Run). r.start < from) (take first runs)
+      → Each (λ (r : Run). from ≤ r.start) (drop first runs)
       → Each (λ (r : Run). r.start < to) (take end runs) → Each (λ (r : Run). to ≤ r.start) (drop end runs) → filter cuts runs ≡ take n (drop first runs)
   cut-runs [] first n end e a b c d = sym (take-nil n) ∙ ap (take n) (sym (drop-nil first))
   cut-runs (r ∷ runs) zero n end e a b c d =
       let same : end ≡ n = omega (arith, e) in
-      cut-front (r ∷ runs) n b (subst (λ k. Each (λ (s : Run). s.start < to) (take k (r ∷ runs))) same c) (subst (λ k. Each (λ (s : Run). to ≤ s.start) (drop k (r ∷ runs))) same d)
+      cut-front (r ∷ runs) n b (subst (λ k. Each (λ (s : Run). s.start < to) (take k (r ∷ runs))) same c)
+      (subst (λ k. Each (λ (s : Run). to ≤ s.start) (drop k (r ∷ runs))) same d)
   cut-runs (r ∷ runs) (suc first) n zero e a b c d = absurd (omega (arith, e))
   cut-runs (r ∷ runs) (suc first) n (suc end) e a b c d =
       ap (λ k. cond k (r ∷ filter cuts runs) (filter cuts runs)) (before r.start a.0) ∙ cut-runs runs first n end (omega (arith, e)) a.1 b c.1 d
 
   -- and the others
-  pub kept-runs : (runs : List Run) (first end : ℕ) → first ≤ end → Each (λ (r : Run). r.start < from) (take first runs) → Each (λ (r : Run). from ≤ r.start) (drop first runs)
-      → Each (λ (r : Run). r.start < to) (take end runs) → Each (λ (r : Run). to ≤ r.start) (drop end runs) → filter keeps runs ≡ take first runs ++ drop end runs
+  pub kept-runs : (runs : List Run) (first end : ℕ) → first ≤ end → Each (λ (r : Run). r.start < from) (take first runs)
+      → Each (λ (r : Run). from ≤ r.start) (drop first runs)
+      → Each (λ (r : Run). r.start < to) (take end runs) → Each (λ (r : Run). to ≤ r.start) (drop end runs)
+      → filter keeps runs ≡ take first runs ++ drop end runs
   kept-runs [] zero zero le a b c d = refl
   kept-runs [] zero (suc end) le a b c d = refl
   kept-runs [] (suc first) zero le a b c d = refl
   kept-runs [] (suc first) (suc end) le a b c d = refl
-  kept-runs (r ∷ runs) zero zero le a b c d = filter-each keeps (r ∷ runs) (Each-mapped (λ (s : Run). to ≤ s.start) (λ s. keeps s ≡ true) (λ s h. ap not (behind s.start h)) (r ∷ runs) d)
+  kept-runs (r ∷ runs) zero zero le a b c d =
+      filter-each keeps (r ∷ runs) (Each-mapped (λ (s : Run). to ≤ s.start) (λ s. keeps s ≡ true) (λ s h. ap not (behind s.start h)) (r ∷ runs) d)
   kept-runs (r ∷ runs) zero (suc end) le a b c d =
       ap (λ k. cond (not k) (r ∷ filter keeps runs) (filter keeps runs)) (between r.start b.0 c.0) ∙ from_front runs end b.1 c.1 d where
-        from_front : (rs : List Run) (k : ℕ) → Each (λ (s : Run). from ≤ s.start) rs → Each (λ (s : Run). s.start < to) (take k rs) → Each (λ (s : Run). to ≤ s.start) (drop k rs) → filter keeps rs ≡ drop k rs
+        from_front : (rs : List Run) (k : ℕ) → Each (λ (s : Run). from ≤ s.start) rs → Each (λ (s : Run). s.start < to) (take k rs)
+            → Each (λ (s : Run). to ≤ s.start) (drop k rs) → filter keeps rs ≡ drop k rs
         from_front [] k x y z = sym (drop-nil k)
-        from_front (s ∷ rs) zero x y z = filter-each keeps (s ∷ rs) (Each-mapped (λ (q : Run). to ≤ q.start) (λ q. keeps q ≡ true) (λ q h. ap not (behind q.start h)) (s ∷ rs) z)
+        from_front (s ∷ rs) zero x y z =
+            filter-each keeps (s ∷ rs) (Each-mapped (λ (q : Run). to ≤ q.start) (λ q. keeps q ≡ true) (λ q h. ap not (behind q.start h)) (s ∷ rs) z)
         from_front (s ∷ rs) (suc k) x y z = ap (λ b. cond (not b) (s ∷ filter keeps rs) (filter keeps rs)) (between s.start x.0 y.0) ∙ from_front rs k x.1 y.1 z
   kept-runs (r ∷ runs) (suc first) zero le a b c d = absurd (omega (arith, le))
   kept-runs (r ∷ runs) (suc first) (suc end) le a b c d =
-      ap (λ k. cond (not k) (r ∷ filter keeps runs) (filter keeps runs)) (before r.start a.0) ∙ ap (λ l. r ∷ l) (kept-runs runs first end (omega (arith, le)) a.1 b c.1 d)
+      ap (λ k. cond (not k) (r ∷ filter keeps runs) (filter keeps runs)) (before r.start a.0)
+      ∙ ap (λ l. r ∷ l) (kept-runs runs first end (omega (arith, le)) a.1 b c.1 d)
 
   -- an empty range has none
   none-one : to ≤ from → (p : ℕ) → is_from from to p ≡ false
@@ -119,19 +134,24 @@ module _ (from to : ℕ) where
   abbrev pub cut_of : List Grouped → List Run
   cut_of groups = map (λ (r : Staged). r.run) (filter (λ (r : Staged). is_from from to r.run.start) (in_groups groups))
 
-  cut-staged : (stage : ℕ) (runs : List Run) → map (λ (r : Staged). r.run) (filter (λ (r : Staged). is_from from to r.run.start) (map (staged stage) runs)) ≡ filter cuts runs
+  cut-staged : (stage : ℕ) (runs : List Run)
+      → map (λ (r : Staged). r.run) (filter (λ (r : Staged). is_from from to r.run.start) (map (staged stage) runs)) ≡ filter cuts runs
   cut-staged stage [] = refl
   cut-staged stage (r ∷ runs) = by_test (cuts r) (cut-staged stage runs) where
     by_test : (b : Bool) → map (λ (s : Staged). s.run) (filter (λ (s : Staged). is_from from to s.run.start) (map (staged stage) runs)) ≡ filter cuts runs
-        → map (λ (s : Staged). s.run) (cond b (staged stage r ∷ filter (λ (s : Staged). is_from from to s.run.start) (map (staged stage) runs)) (filter (λ (s : Staged). is_from from to s.run.start) (map (staged stage) runs))) ≡ cond b (r ∷ filter cuts runs) (filter cuts runs)
+        → map (λ (s : Staged). s.run) (cond b (staged stage r ∷ filter (λ (s : Staged). is_from from to s.run.start) (map (staged stage) runs))
+        (filter (λ (s : Staged). is_from from to s.run.start) (map (staged stage) runs))) ≡ cond b (r ∷ filter cuts runs) (filter cuts runs)
     by_test true rest = ap (λ l. r ∷ l) rest
     by_test false rest = rest
 
-  kept-staged : (stage : ℕ) (runs : List Run) → filter (λ (r : Staged). not (is_from from to r.run.start)) (map (staged stage) runs) ≡ map (staged stage) (filter keeps runs)
+  kept-staged : (stage : ℕ) (runs : List Run)
+      → filter (λ (r : Staged). not (is_from from to r.run.start)) (map (staged stage) runs) ≡ map (staged stage) (filter keeps runs)
   kept-staged stage [] = refl
   kept-staged stage (r ∷ runs) = by_test (keeps r) (kept-staged stage runs) where
     by_test : (b : Bool) → filter (λ (s : Staged). not (is_from from to s.run.start)) (map (staged stage) runs) ≡ map (staged stage) (filter keeps runs)
-        → cond b (staged stage r ∷ filter (λ (s : Staged). not (is_from from to s.run.start)) (map (staged stage) runs)) (filter (λ (s : Staged). not (is_from from to s.run.start)) (map (staged stage) runs)) ≡ map (staged stage) (cond b (r ∷ filter keeps runs) (filter keeps runs))
+        → cond b (staged stage r ∷ filter (λ (s : Staged). not (is_from from to s.run.start)) (map (staged stage) runs))
+        (filter (λ (s : Staged). not (is_from from to s.run.start)) (map (staged stage) runs))
+        ≡ map (staged stage) (cond b (r ∷ filter keeps runs) (filter keeps runs))
     by_test true rest = ap (λ l. staged stage r ∷ l) rest
     by_test false rest = rest
 
@@ -157,12 +177,20 @@ record Split (plan : Plan) (events : List Event) (holders : List Holder) (runs m
   these_are : AreHeldRuns plan events these runs
   others_are : AreHeldRuns plan events others more
 
-split : (plan : Plan) (events : List Event) (holders : List Holder) (runs more : List Run) → AreHeldRuns plan events holders (runs ++ more) → Split plan events holders runs more
+split : (plan : Plan) (events : List Event) (holders : List Holder) (runs more : List Run) → AreHeldRuns plan events holders (runs ++ more)
+    → Split plan events holders runs more
 split plan events holders [] more are = record { these = []; others = holders; parts = refl; these_are = tt; others_are = are }
 split plan events [] (r ∷ runs) more are = absurd are
 split plan events (h ∷ holders) (r ∷ runs) more are =
     let rest = split plan events holders runs more are.1 in
-    record { these = h ∷ rest.these; others = rest.others; parts = ap (λ l. h ∷ l) rest.parts; these_are = (are.0, rest.these_are); others_are = rest.others_are }
+    record {
+      these = h ∷ rest.these;
+      others = rest.others;
+      parts = ap (λ l. h ∷ l) rest.parts;
+      these_are = (are.0, rest.these_are);
+      others_are =
+          rest.others_are;
+    }
 
 -- the first of them can end, and the others after them
 pub record EndsPart (plan : Plan) (events : List Event) (held : Holds) (runs more : List Run) (buffer : BufferContent) : Type 0 where
@@ -171,27 +199,33 @@ pub record EndsPart (plan : Plan) (events : List Event) (held : Holds) (runs mor
   pub can : CanEndAll plan events holders before runs buffer
   pub after : (new : BufferContent) → HoldsLists plan events before new → Ending plan events held more new
 
-pub ends_part : (plan : Plan) (events : List Event) (held : Holds) (all runs more : List Run) (buffer : BufferContent) → all ≡ runs ++ more → Ending plan events held all buffer → EndsPart plan events held runs more buffer
+pub ends_part : (plan : Plan) (events : List Event) (held : Holds) (all runs more : List Run) (buffer : BufferContent) → all ≡ runs ++ more
+    → Ending plan events held all buffer → EndsPart plan events held runs more buffer
 ends_part plan events held all runs more buffer is ending =
     let parts = split plan events ending.holders runs more (subst (AreHeldRuns plan events ending.holders) is ending.can.runs_are) in
     record {
       holders = parts.these;
       before = both_hold held (held_by parts.others);
       can = record {
-        has = HoldsLists-same plan events (both_hold held (held_by ending.holders)) (both_hold (both_hold held (held_by parts.others)) (held_by parts.these)) buffer
-            (λ list key. let same = ap (λ (hs : List Holder). held_by hs list key) parts.parts ∙ held_by-append parts.these parts.others list key in omega (arith, same)) ending.can.has;
+        has =
+            HoldsLists-same plan events (both_hold held (held_by ending.holders))
+            (both_hold (both_hold held (held_by parts.others)) (held_by parts.these)) buffer
+            (λ list key. let same = ap (λ (hs : List Holder). held_by hs list key) parts.parts ∙ held_by-append parts.these parts.others list key in
+            omega (arith, same)) ending.can.has;
         runs_are = parts.these_are;
       };
       after = λ new has. record { holders = parts.others; can = record { has = has; runs_are = parts.others_are } };
     }
 
-pub part_some : (plan : Plan) (events : List Event) (held : Holds) (all runs more : List Run) (buffer : BufferContent) → all ≡ runs ++ more → Ending plan events held all buffer → CanEndAllSome runs buffer
+pub part_some : (plan : Plan) (events : List Event) (held : Holds) (all runs more : List Run) (buffer : BufferContent) → all ≡ runs ++ more
+    → Ending plan events held all buffer → CanEndAllSome runs buffer
 part_some plan events held all runs more buffer is ending =
     let part = ends_part plan events held all runs more buffer is ending in
     record { plan = plan; events = events; holders = part.holders; held = part.before; can = part.can }
 
 -- the same where no run is left
-pub ends_none : (plan : Plan) (events : List Event) (held : Holds) (holders : List Holder) (runs : List Run) (buffer : BufferContent) → runs ≡ [] → CanEndAll plan events holders held runs buffer → HoldsLists plan events held buffer
+pub ends_none : (plan : Plan) (events : List Event) (held : Holds) (holders : List Holder) (runs : List Run) (buffer : BufferContent) → runs ≡ []
+    → CanEndAll plan events holders held runs buffer → HoldsLists plan events held buffer
 ends_none plan events held holders runs buffer none can = ends_all plan events held runs buffer (ap length none) (record { holders = holders; can = can })
 
 -- ---- the group at a place of groups of which those before are cut
@@ -201,24 +235,31 @@ at_left f [] i d lt = absurd (omega (arith, lt))
 at_left f (x ∷ xs) zero d lt = refl
 at_left f (x ∷ xs) (suc i) d lt = at_left f xs i d (omega (arith, lt))
 
-module _ (from to : ℕ) (old items : List Grouped) (place : ℕ) (group : Grouped) (so_far : items ≡ map (cut_group from to) (take place old) ++ drop place old) (within : place < length old) (is : group ≡ get_or items place group) where
+module _ (from to : ℕ) (old items : List Grouped) (place : ℕ) (group : Grouped)
+    (so_far : items ≡ map (cut_group from to) (take place old) ++ drop place old) (within : place < length old)
+    (is : group ≡ get_or items place group) where
   here : group ≡ get_or old place group
   here = is ∙ ap (λ l. get_or l place group) so_far ∙ at_left (cut_group from to) old place group within
 
   left : cut_of from to (drop place old) ≡ filter (cuts from to) group.runs ++ cut_of from to (drop (place + 1) old)
   left = ap (cut_of from to) (drop_more old place group within ∙ ap (λ g. g ∷ drop (place + 1) old) (sym here)) ∙ cut-first from to group (drop (place + 1) old)
 
-  pub kill_some : (plan : Plan) (events : List Event) (held : Holds) (buffer : BufferContent) → Ending plan events held (cut_of from to (drop place old)) buffer → CanEndAllSome (filter (λ (run : Run). is_from from to run.start) group.runs) buffer
+  pub kill_some : (plan : Plan) (events : List Event) (held : Holds) (buffer : BufferContent)
+      → Ending plan events held (cut_of from to (drop place old)) buffer
+      → CanEndAllSome (filter (λ (run : Run). is_from from to run.start) group.runs) buffer
   kill_some plan events held buffer ending = part_some plan events held _ _ _ buffer left ending
 
-  pub kill_turn : (plan : Plan) (events : List Event) (held : Holds) (buffer new : BufferContent) → Ending plan events held (cut_of from to (drop place old)) buffer
-      → ((p : Plan) (es : List Event) (holders : List Holder) (hs : Holds) → CanEndAll p es holders hs (filter (λ (run : Run). is_from from to run.start) group.runs) buffer → HoldsLists p es hs new)
+  pub kill_turn : (plan : Plan) (events : List Event) (held : Holds) (buffer new : BufferContent)
+      → Ending plan events held (cut_of from to (drop place old)) buffer
+      → ((p : Plan) (es : List Event) (holders : List Holder) (hs : Holds)
+      → CanEndAll p es holders hs (filter (λ (run : Run). is_from from to run.start) group.runs) buffer → HoldsLists p es hs new)
       → Ending plan events held (cut_of from to (drop (place + 1) old)) new
   kill_turn plan events held buffer new ending told =
       let part = ends_part plan events held _ _ _ buffer left ending in
       part.after new (told plan events part.holders part.before part.can)
 
-  pub kill_set : (new : Grouped) → new ≡ record group { runs = filter (λ (run : Run). not (is_from from to run.start)) group.runs } → set items place new ≡ map (cut_group from to) (take (place + 1) old) ++ drop (place + 1) old
+  pub kill_set : (new : Grouped) → new ≡ record group { runs = filter (λ (run : Run). not (is_from from to run.start)) group.runs }
+      → set items place new ≡ map (cut_group from to) (take (place + 1) old) ++ drop (place + 1) old
   kill_set new made = set-mapped (cut_group from to) old items place group new so_far within is made
 
 -- what is left at the end
@@ -227,11 +268,14 @@ kill_none from to [] place le = ap (cut_of from to) (drop-nil place)
 kill_none from to (g ∷ old) zero le = absurd (omega (arith, le))
 kill_none from to (g ∷ old) (suc place) le = kill_none from to old place (omega (arith, le))
 
-all-cut : (from to : ℕ) (old : List Grouped) (place : ℕ) → length old ≤ place → map (cut_group from to) (take place old) ++ drop place old ≡ map (cut_group from to) old
+all-cut : (from to : ℕ) (old : List Grouped) (place : ℕ) → length old ≤ place
+    → map (cut_group from to) (take place old) ++ drop place old ≡ map (cut_group from to) old
 all-cut from to [] zero le = refl
 all-cut from to [] (suc place) le = refl
 all-cut from to (g ∷ old) zero le = absurd (omega (arith, le))
 all-cut from to (g ∷ old) (suc place) le = ap (λ l. cut_group from to g ∷ l) (all-cut from to old place (omega (arith, le)))
 
-pub kill_runs : (from to : ℕ) (old items : List Grouped) (place : ℕ) → length old ≤ place → items ≡ map (cut_group from to) (take place old) ++ drop place old → in_groups items ≡ filter (λ (r : Staged). not (is_from from to r.run.start)) (in_groups old)
+pub kill_runs : (from to : ℕ) (old items : List Grouped) (place : ℕ) → length old ≤ place
+    → items ≡ map (cut_group from to) (take place old) ++ drop place old
+    → in_groups items ≡ filter (λ (r : Staged). not (is_from from to r.run.start)) (in_groups old)
 kill_runs from to old items place le so_far = ap in_groups (so_far ∙ all-cut from to old place le) ∙ kept-groups from to old

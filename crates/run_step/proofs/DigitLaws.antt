@@ -21,7 +21,9 @@ use Rattle.run_step.specs.Taking.{label_after, digit_after}
 
 range-last : (from n : ℕ) → range_with_len from (suc n) ≡ range_with_len from n ++ (from + n) ∷ []
 range-last from zero = ap (λ k. k ∷ []) (let same : from ≡ from + 0 = omega arith in same)
-range-last from (suc n) = ap (λ l. from ∷ l) (range-last (from + 1) n ∙ ap (λ k. range_with_len (from + 1) n ++ k ∷ []) (let same : from + 1 + n ≡ from + suc n = omega arith in same))
+range-last from (suc n) =
+    ap (λ l. from ∷ l) (range-last (from + 1) n
+    ∙ ap (λ k. range_with_len (from + 1) n ++ k ∷ []) (let same : from + 1 + n ≡ from + suc n = omega arith in same))
 
 count-last : (test : ℕ → Bool) (n : ℕ) → count_by test (range_with_len 0 (n + 1)) ≡ count_by test (range_with_len 0 n) + cond (test n) 1 0
 count-last test n =
@@ -60,14 +62,17 @@ module _ (plan : Plan) (events : List Event) (event : Event) (list : List Entry)
   unfolding earlier_takes
   earlier_is =
       counts-same _ _ 0 (length events) (λ k above below.
-      is_partial-append plan events (event ∷ []) (list ++ record { stage = stage; position = k } ∷ []) (AreAmong-push events list (record { stage = stage; position = k }) among (omega (arith, below))))
+      is_partial-append plan events (event ∷ []) (list ++ record { stage = stage; position = k } ∷ [])
+      (AreAmong-push events list (record { stage = stage; position = k }) among (omega (arith, below))))
 
   mark_before : mark_of plan whole list ≡ mark_of plan events list
   mark_before = mark_of-append plan events (event ∷ []) list among
 
   pub mark_after : (number : ℕ) → slice_get (waits_of plan (stages_of list)) number ≡ Some (wait_for plan (stages_of list) stage)
       → mark_of plan whole (list ++ next ∷ []) ≡ record {
-        label = label_after (waits_of plan (stages_of list)) number (wait_for plan (stages_of list) stage) (label_of plan events list) (mark_of plan events list).next (takes_so_far plan events list stage);
+        label =
+            label_after (waits_of plan (stages_of list)) number (wait_for plan (stages_of list) stage) (label_of plan events list)
+            (mark_of plan events list).next (takes_so_far plan events list stage);
         next = digit_after (waits_of plan (stages_of list)) (wait_for plan (stages_of list) stage) (mark_of plan events list).next;
       }
   unfolding mark_behind wait_for
@@ -86,10 +91,18 @@ module _ (plan : Plan) (events : List Event) (event : Event) (list : List Entry)
         made before many bump =
             cond (stays plan (stages_of list) stage)
             (record { label = label_of plan events list; next = (mark_of plan events list).next + many })
-            (record { label = label_of plan events list ++ ((mark_of plan events list).next + before) ∷ cond (is_chaining (mode_behind plan (last_or None (stages_of list)) stage)) [] (bump ∷ []); next = 0 })
+            (record {
+              label =
+                  label_of plan events list
+                  ++ ((mark_of plan events list).next + before) ∷ cond (is_chaining (mode_behind plan (last_or None (stages_of list)) stage)) []
+                  (bump ∷ []);
+              next = 0;
+            })
 
   -- one more take, where the event is taken
-  pub takes-later : waits plan events list stage ≡ true → takes_so_far plan whole list stage ≡ takes_so_far plan events list stage + cond (takes plan (taken_of events list) stage event (length events)) 1 0
+  pub takes-later : waits plan events list stage ≡ true
+      → takes_so_far plan whole list stage
+      ≡ takes_so_far plan events list stage + cond (takes plan (taken_of events list) stage event (length events)) 1 0
   takes-later h =
       let n : length whole ≡ length events + 1 = omega (arith, length-append events (event ∷ [])) in
       let test = λ (k : ℕ). is_partial plan whole (list ++ record { stage = stage; position = k } ∷ []) in
@@ -98,5 +111,6 @@ module _ (plan : Plan) (events : List Event) (event : Event) (list : List Entry)
       ap (λ k. count_by test (range_with_len 0 k)) n
       ∙ count-last test (length events)
       ∙ (λ i. counts-same test (λ k. is_partial plan events (list ++ record { stage = stage; position = k } ∷ [])) 0 (length events) (λ k above below.
-      is_partial-append plan events (event ∷ []) (list ++ record { stage = stage; position = k } ∷ []) (AreAmong-push events list (record { stage = stage; position = k }) among (omega (arith, below)))) i
+      is_partial-append plan events (event ∷ []) (list ++ record { stage = stage; position = k } ∷ [])
+      (AreAmong-push events list (record { stage = stage; position = k }) among (omega (arith, below)))) i
       + cond (last i) 1 0)

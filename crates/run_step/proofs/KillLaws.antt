@@ -42,13 +42,15 @@ module _ (plan : Plan) (events : List Event) (cut : ℕ → Bool) where
   cut-same w run is = ap (λ l. starts_in cut (taken_of events l)) is.begins.parts ∙ sym (ap cut is.begins.start_is)
 
   -- the runs that stay are those of the waiters that stay
-  stay-are : (ws : List Waiter) (runs : List Staged) → AreRunsOf plan events ws runs → AreRunsOf plan events (filter stays ws) (filter (λ r. not (run_cut r)) runs)
+  stay-are : (ws : List Waiter) (runs : List Staged) → AreRunsOf plan events ws runs
+      → AreRunsOf plan events (filter stays ws) (filter (λ r. not (run_cut r)) runs)
   stay-are [] [] are = tt
   stay-are [] (r ∷ runs) are = absurd are
   stay-are (w ∷ ws) [] are = absurd are
   stay-are (w ∷ ws) (r ∷ runs) are = by_test (is_cut w) (cut r.run.start) (cut-same w r.run are.0.1) (stay-are ws runs are.1) where
     by_test : (b c : Bool) → b ≡ c → AreRunsOf plan events (filter stays ws) (filter (λ r. not (run_cut r)) runs)
-        → AreRunsOf plan events (cond (not b) (w ∷ filter stays ws) (filter stays ws)) (cond (not c) (r ∷ filter (λ r. not (run_cut r)) runs) (filter (λ r. not (run_cut r)) runs))
+        → AreRunsOf plan events (cond (not b) (w ∷ filter stays ws) (filter stays ws))
+        (cond (not c) (r ∷ filter (λ r. not (run_cut r)) runs) (filter (λ r. not (run_cut r)) runs))
     by_test true true e rest = rest
     by_test true false e rest = absurd cc
     by_test false true e rest = absurd cc
@@ -61,9 +63,19 @@ module _ (plan : Plan) (events : List Event) (cut : ℕ → Bool) where
   cut-are more [] (r ∷ runs) among are = absurd are
   cut-are more (w ∷ ws) [] among are = absurd are
   cut-are more (w ∷ ws) (r ∷ runs) among are = by_test (is_cut w) (cut r.run.start) (cut-same w r.run are.0.1) (cut-are more ws runs among.1 are.1) where
-    by_test : (b c : Bool) → b ≡ c → AreHeldRuns plan (events ++ more) (map holder_of (filter (λ w. not (stays w)) ws)) (map (λ (r : Staged). r.run) (filter run_cut runs))
-        → AreHeldRuns plan (events ++ more) (map holder_of (cond (not (not b)) (w ∷ filter (λ w. not (stays w)) ws) (filter (λ w. not (stays w)) ws))) (map (λ (r : Staged). r.run) (cond c (r ∷ filter run_cut runs) (filter run_cut runs)))
-    by_test true true e rest = (record { node_is = are.0.1.node_is; version_is = are.0.1.version_is ∙ sym (ap (λ (m : Mark). m.label) (mark_of-append plan events more w.list among.0)) }, rest)
+    by_test : (b c : Bool) → b ≡ c
+        → AreHeldRuns plan (events ++ more) (map holder_of (filter (λ w. not (stays w)) ws)) (map (λ (r : Staged). r.run) (filter run_cut runs))
+        → AreHeldRuns plan (events
+        ++ more) (map holder_of (cond (not (not b)) (w ∷ filter (λ w. not (stays w)) ws) (filter (λ w. not (stays w)) ws)))
+        (map (λ (r : Staged). r.run) (cond c (r ∷ filter run_cut runs) (filter run_cut runs)))
+    by_test true true e rest = (
+      record {
+        node_is = are.0.1.node_is;
+        version_is = are.0.1.version_is
+            ∙ sym (ap (λ (m : Mark). m.label) (mark_of-append plan events more w.list among.0));
+      },
+      rest,
+    )
     by_test true false e rest = absurd cc
     by_test false true e rest = absurd cc
     by_test false false e rest = rest
@@ -74,13 +86,16 @@ module _ (plan : Plan) (events : List Event) (cut : ℕ → Bool) where
       let kept = λ (r : ListRun). not (starts_in cut r.list) in
       subst (StandsFor plan events (λ p. starts p && not (cut p)))
       (filter-of_append kept (runs_of plan []) (map (seen events) ws)
-      ∙ (λ i. filter-all kept (runs_of plan []) (empty_kept (filter (may_follow plan []) (range_with_len 0 (length plan.stages)))) i ++ filter-map kept (seen events) ws i))
+      ∙ (λ i. filter-all kept (runs_of plan []) (empty_kept (filter (may_follow plan []) (range_with_len 0 (length plan.stages)))) i
+      ++ filter-map kept (seen events) ws i))
       (StandsFor-killed plan events starts cut (runs_of plan [] ++ map (seen events) ws) stand) where
-        empty_kept : (stages : List ℕ) → Each (λ (r : ListRun). not (starts_in cut r.list) ≡ true) (map (λ (stage : ℕ). record { stage = stage; list = [] }) stages)
+        empty_kept : (stages : List ℕ)
+            → Each (λ (r : ListRun). not (starts_in cut r.list) ≡ true) (map (λ (stage : ℕ). record { stage = stage; list = [] }) stages)
         empty_kept [] = tt
         empty_kept (stage ∷ stages) = (refl, empty_kept stages)
 
-module _ (plan : Plan) (events : List Event) (starts : ℕ → Bool) (tips : List Holder) (content : Content) (old : BufferContent) (stands : Stands plan events starts tips content old) where
+module _ (plan : Plan) (events : List Event) (starts : ℕ → Bool) (tips : List Holder) (content : Content) (old : BufferContent)
+    (stands : Stands plan events starts tips content old) where
   abbrev staying : (ℕ → Bool) → List Waiter
   staying cut = filter (stays plan events cut) stands.waiters
 
@@ -102,19 +117,25 @@ module _ (plan : Plan) (events : List Event) (starts : ℕ → Bool) (tips : Lis
     all-among (w ∷ ws) h = (waits-among plan events w.list w.stage h.0, all-among ws h.1)
 
   -- The runs that go can end.
-  pub kill-can : (cut : ℕ → Bool) → CanEndAll plan (events ++ stands.ahead) (map holder_of (going cut)) (both_hold (held_by (map holder_of (staying cut))) (held_by tips)) (map (λ (r : Staged). r.run) (filter (λ r. cut r.run.start) content.runs)) old
+  pub kill-can : (cut : ℕ → Bool)
+      → CanEndAll plan (events ++ stands.ahead) (map holder_of (going cut)) (both_hold (held_by (map holder_of (staying cut))) (held_by tips))
+      (map (λ (r : Staged). r.run) (filter (λ r. cut r.run.start) content.runs)) old
   kill-can cut = record {
-    has = HoldsLists-same plan (events ++ stands.ahead) _ (both_hold (both_hold (held_by (map holder_of (staying cut))) (held_by tips)) (held_by (map holder_of (going cut)))) old
+    has =
+        HoldsLists-same plan (events ++ stands.ahead) _
+        (both_hold (both_hold (held_by (map holder_of (staying cut))) (held_by tips)) (held_by (map holder_of (going cut)))) old
         (λ list key. let split = held-split (stays plan events cut) stands.waiters list key in omega (arith, split)) stands.held;
     runs_are = cut-are plan events cut stands.ahead stands.waiters content.runs among stands.runs;
   }
 
   -- Without them the runs and the buffer stand for the other starts.
-  pub kill-after : (cut : ℕ → Bool) (new : BufferContent) → HoldsLists plan (events ++ stands.ahead) (both_hold (held_by (map holder_of (staying cut))) (held_by tips)) new
+  pub kill-after : (cut : ℕ → Bool) (new : BufferContent)
+      → HoldsLists plan (events ++ stands.ahead) (both_hold (held_by (map holder_of (staying cut))) (held_by tips)) new
       → Stands plan events (λ p. starts p && not (cut p)) tips (record content { runs = filter (λ r. not (cut r.run.start)) content.runs }) new
   kill-after cut new held = record {
     counted = stands.counted;
     bumps = stands.bumps;
+    empty = stands.empty;
     waiters = staying cut;
     stand = stand-cut plan events cut starts stands.waiters stands.stand;
     runs = stay-are plan events cut stands.waiters content.runs stands.runs;
@@ -124,7 +145,8 @@ module _ (plan : Plan) (events : List Event) (starts : ℕ → Bool) (tips : Lis
   }
 
   -- the same for runs that are these
-  pub kill-some : (cut : ℕ → Bool) (runs : List Staged) → runs ≡ content.runs → CanEndAllSome (map (λ (r : Staged). r.run) (filter (λ r. cut r.run.start) runs)) old
+  pub kill-some : (cut : ℕ → Bool) (runs : List Staged) → runs ≡ content.runs
+      → CanEndAllSome (map (λ (r : Staged). r.run) (filter (λ r. cut r.run.start) runs)) old
   kill-some cut runs is = subst (λ (l : List Staged). CanEndAllSome (map (λ (r : Staged). r.run) (filter (λ r. cut r.run.start) l)) old) (sym is) (record {
     plan = plan;
     events = events ++ stands.ahead;
@@ -138,11 +160,13 @@ module _ (plan : Plan) (events : List Event) (starts : ℕ → Bool) (tips : Lis
   LeftAfter cut left new = (after : Stands plan events (λ p. starts p && not (cut p)) tips left new) × (after.ahead ≡ stands.ahead)
 
   kill-left : (cut : ℕ → Bool) (runs : List Staged) → runs ≡ content.runs → (new : BufferContent)
-      → ((p : Plan) (es : List Event) (holders : List Holder) (held : Holds) → CanEndAll p es holders held (map (λ (r : Staged). r.run) (filter (λ r. cut r.run.start) runs)) old → HoldsLists p es held new)
-      → (left : Content) → left.runs ≡ filter (λ (r : Staged). not (cut r.run.start)) runs → left.bumps ≡ content.bumps → left.position ≡ content.position
+      → ((p : Plan) (es : List Event) (holders : List Holder) (held : Holds)
+      → CanEndAll p es holders held (map (λ (r : Staged). r.run) (filter (λ r. cut r.run.start) runs)) old → HoldsLists p es held new)
+      → (left : Content) → left.runs ≡ filter (λ (r : Staged). not (cut r.run.start)) runs → left.bumps ≡ content.bumps
+      → left.position ≡ content.position → left.empty ≡ content.empty
       → LeftAfter cut left new
   unfolding kill-after
-  kill-left cut runs is new told left left_runs left_bumps left_position =
+  kill-left cut runs is new told left left_runs left_bumps left_position left_empty =
       let can = subst (λ (l : List Staged). CanEndAll plan (events ++ stands.ahead) (map holder_of (going cut)) (both_hold (held_by (map holder_of (staying cut))) (held_by tips)) (map (λ (r : Staged). r.run) (filter (λ r. cut r.run.start) l)) old) (sym is) (kill-can cut) in
       let after = kill-after cut new (told plan (events ++ stands.ahead) (map holder_of (going cut)) (both_hold (held_by (map holder_of (staying cut))) (held_by tips)) can) in
       subst (λ (v : Content). LeftAfter cut v new)
@@ -150,18 +174,24 @@ module _ (plan : Plan) (events : List Event) (starts : ℕ → Bool) (tips : Lis
         runs = sym (left_runs ∙ ap (filter (λ (r : Staged). not (cut r.run.start))) is) i;
         bumps = sym left_bumps i;
         position = sym left_position i;
+        empty = sym left_empty i;
       }) (after, refl)
 
   pub kill-all : (cut : ℕ → Bool) (runs : List Staged) → runs ≡ content.runs → (new : BufferContent)
-      → ((p : Plan) (es : List Event) (holders : List Holder) (held : Holds) → CanEndAll p es holders held (map (λ (r : Staged). r.run) (filter (λ r. cut r.run.start) runs)) old → HoldsLists p es held new)
-      → (left : Content) → left.runs ≡ filter (λ (r : Staged). not (cut r.run.start)) runs → left.bumps ≡ content.bumps → left.position ≡ content.position
+      → ((p : Plan) (es : List Event) (holders : List Holder) (held : Holds)
+      → CanEndAll p es holders held (map (λ (r : Staged). r.run) (filter (λ r. cut r.run.start) runs)) old → HoldsLists p es held new)
+      → (left : Content) → left.runs ≡ filter (λ (r : Staged). not (cut r.run.start)) runs → left.bumps ≡ content.bumps
+      → left.position ≡ content.position → left.empty ≡ content.empty
       → Stands plan events (λ p. starts p && not (cut p)) tips left new
-  kill-all cut runs is new told left left_runs left_bumps left_position = (kill-left cut runs is new told left left_runs left_bumps left_position).0
+  kill-all cut runs is new told left left_runs left_bumps left_position left_empty =
+      (kill-left cut runs is new told left left_runs left_bumps left_position left_empty).0
 
   pub kill-now : stands.ahead ≡ [] → (cut : ℕ → Bool) (runs : List Staged) → runs ≡ content.runs → (new : BufferContent)
-      → ((p : Plan) (es : List Event) (holders : List Holder) (held : Holds) → CanEndAll p es holders held (map (λ (r : Staged). r.run) (filter (λ r. cut r.run.start) runs)) old → HoldsLists p es held new)
-      → (left : Content) → left.runs ≡ filter (λ (r : Staged). not (cut r.run.start)) runs → left.bumps ≡ content.bumps → left.position ≡ content.position
+      → ((p : Plan) (es : List Event) (holders : List Holder) (held : Holds)
+      → CanEndAll p es holders held (map (λ (r : Staged). r.run) (filter (λ r. cut r.run.start) runs)) old → HoldsLists p es held new)
+      → (left : Content) → left.runs ≡ filter (λ (r : Staged). not (cut r.run.start)) runs → left.bumps ≡ content.bumps
+      → left.position ≡ content.position → left.empty ≡ content.empty
       → StandsNow plan events (λ p. starts p && not (cut p)) tips left new
-  kill-now none cut runs is new told left left_runs left_bumps left_position =
-      let after = kill-left cut runs is new told left left_runs left_bumps left_position in
+  kill-now none cut runs is new told left left_runs left_bumps left_position left_empty =
+      let after = kill-left cut runs is new told left left_runs left_bumps left_position left_empty in
       record { stands = after.0; none_ahead = after.1 ∙ none }

@@ -8,6 +8,8 @@ use Rattle.nfa_compile.specs.Automaton.{automaton_of, waits_of}
 use Rattle.list_runs.specs.Runs.{StandsFor, runs_of}
 use Rattle.list_runs.proofs.StartLaws.{StandsFor-start}
 use Rattle.shared_buffer.specs.Slots.{slot_at}
+use Rattle.cond_sums.specs.Kept.{Summed}
+use Rattle.run_judge.specs.Fate.{AreSumsOf}
 use Rattle.run_step.proofs.WaitsLaws.{take-all}
 use Rattle.run_step.specs.Runs.{takes_so_far, Stands, StandsNow}
 
@@ -24,9 +26,11 @@ no_takes plan [] = refl
 no_takes plan (w ∷ waits) = ap (λ l. 0 ∷ l) (no_takes plan waits)
 
 stands_new : (plan : Plan) (starts : ℕ → Bool) (nfa : Nfa) → nfa ≡ automaton_of plan → (bumps : List ℕ) → bumps ≡ map (λ (w : Wait). 0) nfa.start
-    → Stands plan [] starts [] (record { runs = []; bumps = bumps; position = 0 }) (record { events = []; nodes = [] })
-stands_new plan starts nfa made bumps is = record {
+    → (empty : Summed) → AreSumsOf plan [] empty
+    → Stands plan [] starts [] (record { runs = []; bumps = bumps; position = 0; empty = empty }) (record { events = []; nodes = [] })
+stands_new plan starts nfa made bumps is empty none = record {
   counted = refl;
+  empty = none;
   bumps = is ∙ ap (map (λ (w : Wait). 0)) (ap (λ (n : Nfa). n.start) made ∙ start_waits plan) ∙ no_takes plan (waits_of plan []);
   waiters = [];
   stand = subst (StandsFor plan [] starts) (sym (append-nil (runs_of plan []))) (StandsFor-start plan starts);
@@ -42,13 +46,16 @@ stands_new plan starts nfa made bumps is = record {
 }
 
 pub stands_now : (plan : Plan) (starts : ℕ → Bool) (nfa : Nfa) → nfa ≡ automaton_of plan → (bumps : List ℕ) → bumps ≡ map (λ (w : Wait). 0) nfa.start
-    → StandsNow plan [] starts [] (record { runs = []; bumps = bumps; position = 0 }) (record { events = []; nodes = [] })
+    → (empty : Summed) → AreSumsOf plan [] empty
+    → StandsNow plan [] starts [] (record { runs = []; bumps = bumps; position = 0; empty = empty }) (record { events = []; nodes = [] })
 unfolding stands_new
-stands_now plan starts nfa made bumps is = record { stands = stands_new plan starts nfa made bumps is; none_ahead = refl }
+stands_now plan starts nfa made bumps is empty none = record { stands = stands_new plan starts nfa made bumps is empty none; none_ahead = refl }
 
-pub zeros_more : (waits : List Wait) (i : ℕ) (wait : Wait) (before after : List ℕ) → i < length waits → before ≡ map (λ (w : Wait). 0) (take i waits) → after ≡ before ++ 0 ∷ [] → after ≡ map (λ (w : Wait). 0) (take (i + 1) waits)
+pub zeros_more : (waits : List Wait) (i : ℕ) (wait : Wait) (before after : List ℕ) → i < length waits → before ≡ map (λ (w : Wait). 0) (take i waits)
+    → after ≡ before ++ 0 ∷ [] → after ≡ map (λ (w : Wait). 0) (take (i + 1) waits)
 zeros_more waits i wait before after within so_far added =
-    added ∙ ap (λ l. l ++ 0 ∷ []) so_far ∙ sym (ap (map (λ (w : Wait). 0)) (take_more waits i wait within) ∙ map-append (λ (w : Wait). 0) (take i waits) (get_or waits i wait ∷ []))
+    added ∙ ap (λ l. l ++ 0 ∷ []) so_far
+    ∙ sym (ap (map (λ (w : Wait). 0)) (take_more waits i wait within) ∙ map-append (λ (w : Wait). 0) (take i waits) (get_or waits i wait ∷ []))
 
 pub zeros_all : (waits : List Wait) (i : ℕ) (all : List ℕ) → length waits ≤ i → all ≡ map (λ (w : Wait). 0) (take i waits) → all ≡ map (λ (w : Wait). 0) waits
 zeros_all waits i all le so_far = so_far ∙ ap (map (λ (w : Wait). 0)) (take-all waits i le)

@@ -10,7 +10,11 @@ Up low (x ∷ xs) = (low ≤ x.start) × Up x.start xs
 
 up-from : (low : ℕ) (xs : List Run) → ((d : Run) → 0 < length xs → low ≤ (get_or xs 0 d).start) → IsOrdered xs → Up low xs
 up-from low [] h ordered = tt
-up-from low (x ∷ xs) h ordered = (h x (omega arith), up-from x.start xs (λ d lt. ordered 0 1 d (omega arith) (omega (arith, lt))) (λ i j d le lt. ordered (suc i) (suc j) d (omega (arith, le)) (omega (arith, lt))))
+up-from low (x ∷ xs) h ordered = (
+  h x (omega arith),
+  up-from x.start xs (λ d lt. ordered 0 1 d (omega arith) (omega (arith, lt)))
+      (λ i j d le lt. ordered (suc i) (suc j) d (omega (arith, le)) (omega (arith, lt))),
+)
 
 up-all : (low : ℕ) (xs : List Run) → Up low xs → (k : ℕ) (d : Run) → k < length xs → low ≤ (get_or xs k d).start
 up-all low [] up k d lt = absurd (omega (arith, lt))
@@ -45,7 +49,8 @@ up-same low (z ∷ xs) ys x y e h = (h.0, up-same z.start xs ys x y e h.1)
 
 up-set : (low : ℕ) (xs : List Run) (i : ℕ) (x y : Run) → x ≡ get_or xs i x → y.start ≡ x.start → Up low xs → Up low (set xs i y)
 up-set low [] i x y is e h = tt
-up-set low (z ∷ xs) zero x y is e h = let same = ap (λ (r : Run). r.start) is in let one = h.0 in (omega (arith, one, e, same), up-lower y.start z.start xs (omega (arith, e, same)) h.1)
+up-set low (z ∷ xs) zero x y is e h = let same = ap (λ (r : Run). r.start) is in let one = h.0 in
+    (omega (arith, one, e, same), up-lower y.start z.start xs (omega (arith, e, same)) h.1)
 up-set low (z ∷ xs) (suc i) x y is e h = (h.0, up-set z.start xs i x y is e h.1)
 
 pub ordered-without : (xs ys : List Run) (x : Run) → IsOrdered (xs ++ x ∷ ys) → IsOrdered (xs ++ ys)

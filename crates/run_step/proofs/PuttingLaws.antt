@@ -3,7 +3,9 @@ use Rattle.std.proofs.Common.{◌≡◌, ◌≢◌, refl, sym, ◌∙◌, ap, su
 use Rattle.std.specs.List.{AllByRecursion as Each}
 use Rattle.cep_event.specs.declared.event.Event.{Event}
 use Rattle.cep_plan.specs.declared.plan.Plan.{Plan}
-use Rattle.cep_plan.specs.Entry.{Entry}
+use Rattle.cep_plan.specs.Entry.{Entry, taken_of}
+use Rattle.run_judge.specs.declared.gap.Last.{Last}
+use Rattle.run_judge.specs.Fate.{AreSumsOf}
 use Rattle.live_laws.proofs.LastLaws.{last_or-push}
 use Rattle.match_labels.specs.Label.{label_of}
 use Rattle.shared_buffer.specs.Slots.{slot_at}
@@ -24,20 +26,23 @@ use Rattle.list_buffer.proofs.PutLaws.{has_hold, can_put}
 use Rattle.run_step.specs.declared.runs.Run.{Run}
 use Rattle.run_step.specs.declared.passing.Take.{Take}
 use Rattle.run_step.specs.declared.passing.Grown.{Grown}
-use Rattle.run_step.specs.Runs.{Waiter}
+use Rattle.run_step.specs.Runs.{Waiter, entry_of}
 use Rattle.run_step.specs.Taking.{taking, first_of, pred_of, IsTakeOf}
 use Rattle.run_step.specs.Putting.{CanTake, CanPutAll, HasPut, grown_holder, CanEnd}
 
 -- ---- ends
 
-pub end_has : (plan : Plan) (events : List Event) (holder : Holder) (held : Holds) (run : Run) (buffer : BufferContent) → CanEnd plan events holder held run buffer → IsConsistent buffer → HasHold buffer.nodes run.node run.version
+pub end_has : (plan : Plan) (events : List Event) (holder : Holder) (held : Holds) (run : Run) (buffer : BufferContent)
+    → CanEnd plan events holder held run buffer → IsConsistent buffer → HasHold buffer.nodes run.node run.version
 end_has plan events holder held run buffer can sound =
     let hold = has_hold plan events held buffer can.has sound holder.list holder.node can.is_held in
     subst (λ (k : ℕ). HasHold buffer.nodes k run.version) (sym can.run_is.node_is)
     (subst (HasHold buffer.nodes holder.node) (sym can.run_is.version_is) hold)
 
-pub end_after : (plan : Plan) (events : List Event) (holder : Holder) (held : Holds) (run : Run) (old new : BufferContent) → CanEnd plan events holder held run old → IsConsistent new
-    → ReleasesOneHold old.nodes new.nodes run.node run.version → KeepsEvents old.events new.events new.nodes → HoldsLists plan events (without_hold holder held) new
+pub end_after : (plan : Plan) (events : List Event) (holder : Holder) (held : Holds) (run : Run) (old new : BufferContent)
+    → CanEnd plan events holder held run old → IsConsistent new
+    → ReleasesOneHold old.nodes new.nodes run.node run.version → KeepsEvents old.events new.events new.nodes
+    → HoldsLists plan events (without_hold holder held) new
 end_after plan events holder held run old new can sound releases keeps =
     HoldsLists-release plan events held old new can.has sound holder can.is_held
     (subst (λ (k : ℕ). ReleasesOneHold old.nodes new.nodes k (label_of plan events holder.list)) can.run_is.node_is
@@ -50,16 +55,20 @@ Each-end P [] x h = h.0
 Each-end P (y ∷ xs) x h = Each-end P xs x h.1
 
 -- a list before the position is none that ends there
-pub other_end : (position : ℕ) (list front : List Entry) (stage : ℕ) → Each (λ (e : Entry). e.position < position) list → front ++ record { stage = stage; position = position } ∷ [] ≢ list
+pub other_end : (position : ℕ) (list front : List Entry) (stage : ℕ) → Each (λ (e : Entry). e.position < position) list
+    → front ++ record { stage = stage; position = position } ∷ [] ≢ list
 other_end position list front stage below same =
     let last : position < position = Each-end (λ (e : Entry). e.position < position) front _ (subst (Each (λ (e : Entry). e.position < position)) (sym same) below) in
     omega (arith, last)
 
-leads_of : (plan : Plan) (events : List Event) (nodes : List (Option Node)) (front : List Entry) (node : ℕ) → ((first : Entry) (later : List Entry) → front ≡ first ∷ later → HasEdgeOf plan events nodes front node) → LeadsTo plan nodes front (pred_of front node)
+leads_of : (plan : Plan) (events : List Event) (nodes : List (Option Node)) (front : List Entry) (node : ℕ)
+    → ((first : Entry) (later : List Entry) → front ≡ first ∷ later → HasEdgeOf plan events nodes front node)
+    → LeadsTo plan nodes front (pred_of front node)
 leads_of plan events nodes [] node carried = refl
 leads_of plan events nodes (first ∷ later) node carried = (node, refl, (carried first later refl).edge_is.node)
 
-carried_of : (plan : Plan) (events : List Event) (nodes : List (Option Node)) (front : List Entry) (node : ℕ) → ((first : Entry) (later : List Entry) → front ≡ first ∷ later → HasEdgeOf plan events nodes front node)
+carried_of : (plan : Plan) (events : List Event) (nodes : List (Option Node)) (front : List Entry) (node : ℕ)
+    → ((first : Entry) (later : List Entry) → front ≡ first ∷ later → HasEdgeOf plan events nodes front node)
     → (key : ℕ) → pred_of front node ≡ Some key → HasEdgeOf plan events nodes front key
 carried_of plan events nodes [] node carried key is = absurd cc
 carried_of plan events nodes (first ∷ later) node carried key is =
@@ -75,7 +84,9 @@ unfolding rest_of
 first_parts [] end = refl
 first_parts (first ∷ later) end = refl
 
-module _ (plan : Plan) (events : List Event) (position event : ℕ) (waiter : Waiter) (waiters : List Waiter) (held : Holds) (buffer : BufferContent) (can : CanPutAll plan events position event (waiter ∷ waiters) held buffer) (sound : IsConsistent buffer) (taken : Take) (is : IsTakeOf plan events position waiter taken) where
+module _ (plan : Plan) (events : List Event) (position event : ℕ) (waiter : Waiter) (waiters : List Waiter) (held : Holds) (buffer : BufferContent)
+    (can : CanPutAll plan events position event (waiter ∷ waiters) held buffer) (sound : IsConsistent buffer) (taken : Take)
+    (is : IsTakeOf plan events position waiter taken) where
   abbrev end : Entry
   end = record { stage = waiter.stage; position = position }
 
@@ -89,7 +100,8 @@ module _ (plan : Plan) (events : List Event) (position event : ℕ) (waiter : Wa
   put_has few =
       let asks = can_put plan events held buffer can.has sound few can.fit list waiter.list end here.partial refl (last_or-push None waiter.list end) can.top
       taken.state event is.state_is can.row can.found can.at (pred_of waiter.list waiter.node)
-      (leads_of plan events buffer.nodes waiter.list waiter.node here.carried) (carried_of plan events buffer.nodes waiter.list waiter.node here.carried) here.small here.new in
+      (leads_of plan events buffer.nodes waiter.list waiter.node here.carried)
+      (carried_of plan events buffer.nodes waiter.list waiter.node here.carried) here.small here.new in
       subst (λ (s : ℕ). CanPut buffer s taken.state event taken.pred taken.version) (sym is.stage_is)
       (subst (λ (p : Option ℕ). CanPut buffer waiter.stage taken.state event p taken.version) (sym is.pred_is)
       (subst (CanPut buffer waiter.stage taken.state event (pred_of waiter.list waiter.node)) (sym is.version_is) asks))
@@ -128,21 +140,26 @@ module _ (plan : Plan) (events : List Event) (position event : ℕ) (waiter : Wa
 
     put_holds : HoldsLists plan events (with_hold holder held) new
     put_holds =
-        HoldsLists-put plan events held buffer new can.has sound_new puts.events holder (pred_of waiter.list waiter.node) waiter.list end refl here.partial (last_or-push None waiter.list end)
+        HoldsLists-put plan events held buffer new can.has sound_new puts.events holder (pred_of waiter.list waiter.node) waiter.list end refl
+        here.partial (last_or-push None waiter.list end)
         (leads_of plan events buffer.nodes waiter.list waiter.node here.carried) taken.state event is.state_is put_placed put_adds put_fresh
 
-    put_can : (w : Waiter) → CanTake plan events position held buffer w → (list ≡ taking w position → ⊥) → CanTake plan events position (with_hold holder held) new w
+    put_can : (w : Waiter) → CanTake plan events position held buffer w → (list ≡ taking w position → ⊥)
+        → CanTake plan events position (with_hold holder held) new w
     put_can w old other = record {
       partial = old.partial;
       carried = λ first later parts.
           let at = old.carried first later parts in
-          moved_edge plan events held buffer new can.has sound_new (keep_stays buffer.nodes new.nodes adds.node_stays) w.list w.node at.edge at.edge_is (adds.stays w.node at.edge at.edge_is.stands);
+          moved_edge plan events held buffer new can.has sound_new (keep_stays buffer.nodes new.nodes adds.node_stays) w.list w.node at.edge
+          at.edge_is (adds.stays w.node at.edge at.edge_is.stands);
       below = old.below;
-      small = λ k. let none = one_hold-other_list holder w.list k (other_end position w.list waiter.list waiter.stage old.below) in let few = old.small k in omega (arith, none, few);
+      small = λ k. let none = one_hold-other_list holder w.list k (other_end position w.list waiter.list waiter.stage old.below) in
+          let few = old.small k in omega (arith, none, few);
       new = λ k. let none = one_hold-other_list holder (taking w position) k other in let before = old.new k in omega (arith, none, before);
     }
 
-    put_each : (ws : List Waiter) → Each (CanTake plan events position held buffer) ws → Each (λ l. list ≡ l → ⊥) (map (λ w. taking w position) ws) → Each (CanTake plan events position (with_hold holder held) new) ws
+    put_each : (ws : List Waiter) → Each (CanTake plan events position held buffer) ws → Each (λ l. list ≡ l → ⊥) (map (λ w. taking w position) ws)
+        → Each (CanTake plan events position (with_hold holder held) new) ws
     put_each [] old apart = tt
     put_each (w ∷ ws) old apart = (put_can w old.0 apart.0, put_each ws old.1 apart.1)
 
@@ -158,9 +175,11 @@ module _ (plan : Plan) (events : List Event) (position event : ℕ) (waiter : Wa
       apart = can.apart.1;
     }
 
-    pub put_after : (grown : Grown) → grown.node ≡ key → grown.state ≡ taken.state → grown.version ≡ taken.version → grown.next_digit ≡ taken.next_digit → grown.start ≡ taken.start → grown.start_ts ≡ taken.start_ts → grown.taken ≡ taken.taken
+    pub put_after : (grown : Grown) → grown.node ≡ key → grown.state ≡ taken.state → grown.version ≡ taken.version
+        → grown.next_digit ≡ taken.next_digit → grown.start ≡ taken.start → grown.start_ts ≡ taken.start_ts → grown.last ≡ taken.last
+        → grown.sums ≡ taken.sums
         → HasPut plan events position event waiter waiters held grown new
-    put_after grown node state version digit start time events_are = record {
+    put_after grown node state version digit start time ends sums = record {
       can = subst (λ (k : ℕ). CanPutAll plan events position event waiters (with_hold (grown_holder waiter position k) held) new) (sym node) put_all;
       grown_is = record {
         state_is = state ∙ is.state_is;
@@ -172,6 +191,7 @@ module _ (plan : Plan) (events : List Event) (position event : ℕ) (waiter : Wa
         parts = first_parts waiter.list end;
         start_is = start ∙ is.start_is;
         time_is = time ∙ is.time_is;
-        taken_is = events_are ∙ is.taken_is;
+        last_is = is.last_is ∙ sym (ap (λ (l : Last). Some (entry_of l)) ends);
+        sums = subst (AreSumsOf plan (taken_of events list)) (sym sums) is.sums;
       };
     }

@@ -64,7 +64,9 @@ fewer list key (w ∷ waiters) =
     let split = held_by-cons (holder_of w) (map holder_of waiters) list key in
     let one = bounded (is_list w.list list) (w.node == key) (one_hold (holder_of w) list key) refl in
     omega (arith, rest, split, one) where
-      bounded : (b k : Bool) (n : ℕ) → n ≡ cond (b && k) 1 0 → n + length (filter (λ w. is_list w.list list) waiters) ≤ length (cond b (w ∷ filter (λ w. is_list w.list list) waiters) (filter (λ w. is_list w.list list) waiters))
+      bounded : (b k : Bool) (n : ℕ) → n ≡ cond (b && k) 1 0
+          → n + length (filter (λ w. is_list w.list list) waiters) ≤ length
+          (cond b (w ∷ filter (λ w. is_list w.list list) waiters) (filter (λ w. is_list w.list list) waiters))
       bounded true true n e = omega (arith, e)
       bounded true false n e = omega (arith, e)
       bounded false k n e = omega (arith, e)
@@ -72,13 +74,15 @@ fewer list key (w ∷ waiters) =
 -- one of the waiters holds its list
 holds-own : (done rest : List Waiter) (w : Waiter) → 0 < held_by (map holder_of (done ++ w ∷ rest)) w.list w.node
 holds-own [] rest w = omega (arith, held_by-cons (holder_of w) (map holder_of rest) w.list w.node, one_hold-here (holder_of w) w.list w.node refl refl)
-holds-own (d ∷ done) rest w = let more = holds-own done rest w in omega (arith, more, held_by-cons (holder_of d) (map holder_of (done ++ w ∷ rest)) w.list w.node)
+holds-own (d ∷ done) rest w = let more = holds-own done rest w in
+    omega (arith, more, held_by-cons (holder_of d) (map holder_of (done ++ w ∷ rest)) w.list w.node)
 
 Each-join : {X : Type 0} (P : X → Type 0) (xs ys : List X) → Each P xs → Each P ys → Each P (xs ++ ys)
 Each-join P [] ys h k = k
 Each-join P (x ∷ xs) ys h k = (h.0, Each-join P xs ys h.1 k)
 
-module _ (plan : Plan) (fit : IsCompilable plan) (events : List Event) (event : Event) (starts : ℕ → Bool) (fresh : starts (length events) ≡ true) (waiters : List Waiter) (stand : StandsFor plan events starts (runs_of plan [] ++ map (seen events) waiters)) where
+module _ (plan : Plan) (fit : IsCompilable plan) (events : List Event) (event : Event) (starts : ℕ → Bool) (fresh : starts (length events) ≡ true)
+    (waiters : List Waiter) (stand : StandsFor plan events starts (runs_of plan [] ++ map (seen events) waiters)) where
   abbrev whole : List Event
   whole = events ++ event ∷ []
 
@@ -101,7 +105,8 @@ module _ (plan : Plan) (fit : IsCompilable plan) (events : List Event) (event : 
       subst AllApart (filter-map of (seen events) waiters ∙ ap (map (seen events)) (filter-same (λ w. of (seen events w)) same waiters (same_test waiters)))
       (AllApart-filter of (map (seen events) waiters) (AllApart-behind (runs_of plan []) (map (seen events) waiters) stand.once)) in
       let stages : AllApart (map (λ (r : ListRun). r.stage) (map (seen events) these)) =
-      AllApart-map (λ (r : ListRun). r.stage) (map (seen events) these) (λ a b p q e. (λ i. record { stage = e i; list = (list_is list a p ∙ sym (list_is list b q)) i })) apart in
+      AllApart-map (λ (r : ListRun). r.stage) (map (seen events) these)
+      (λ a b p q e. (λ i. record { stage = e i; list = (list_is list a p ∙ sym (list_is list b q)) i })) apart in
       let most = apart_within (length plan.stages) (map (λ (w : Waiter). w.stage) these) (subst AllApart (map-of_map (λ (r : ListRun). r.stage) (seen events) these) stages) (known these (Each-filter (λ (w : Waiter). waits plan events w.list w.stage ≡ true) same waiters (waiting waiters (Each-behind _ (first_waiters plan) waiters (each-waits plan events event starts fresh waiters stand))))) in
       let sized = length-mapped (λ (w : Waiter). w.stage) these in
       omega (arith, fewer list key waiters, most, sized, fit.few_stages) where
@@ -115,16 +120,19 @@ module _ (plan : Plan) (fit : IsCompilable plan) (events : List Event) (event : 
             let passed = (Contains-from_filter (λ (w : Waiter). is_list w.list list) waiters found.0 found.1).1 in
             sym (ap (λ (x : ListRun). x.list) found.2) ∙ ap (taken_of events) (is_list-same found.0.list list passed)
 
-        waiting : (ws : List Waiter) → Each (λ w. (waits plan events w.list w.stage ≡ true) × (begins_in starts w.list ≡ true)) ws → Each (λ w. waits plan events w.list w.stage ≡ true) ws
+        waiting : (ws : List Waiter) → Each (λ w. (waits plan events w.list w.stage ≡ true) × (begins_in starts w.list ≡ true)) ws
+            → Each (λ w. waits plan events w.list w.stage ≡ true) ws
         waiting [] h = tt
         waiting (w ∷ ws) h = (h.0.0, waiting ws h.1)
 
-        known : (ws : List Waiter) → Each (λ w. waits plan events w.list w.stage ≡ true) ws → Each (λ x. x < length plan.stages) (map (λ (w : Waiter). w.stage) ws)
+        known : (ws : List Waiter) → Each (λ w. waits plan events w.list w.stage ≡ true) ws
+            → Each (λ x. x < length plan.stages) (map (λ (w : Waiter). w.stage) ws)
         known [] h = tt
         known (w ∷ ws) h = (stage_known plan (stages_of w.list) w.stage (waits-follows plan events w.list w.stage h.0), known ws h.1)
 
   -- no list so far ends at the event
-  pub new-list : (front : List Entry) (stage key : ℕ) → (ws : List Waiter) → Each (λ w. AreAmong events w.list) ws → held_by (map holder_of ws) (front ++ record { stage = stage; position = length events } ∷ []) key ≡ 0
+  pub new-list : (front : List Entry) (stage key : ℕ) → (ws : List Waiter) → Each (λ w. AreAmong events w.list) ws
+      → held_by (map holder_of ws) (front ++ record { stage = stage; position = length events } ∷ []) key ≡ 0
   new-list front stage key [] h = refl
   new-list front stage key (w ∷ ws) h =
       let rest = new-list front stage key ws h.1 in
@@ -136,10 +144,13 @@ module _ (plan : Plan) (fit : IsCompilable plan) (events : List Event) (event : 
   takers-apart =
       AllApart-unmap (taken_of whole) (map (λ w. taking w (length events)) takers)
       (subst AllApart (grown-are plan events event starts fresh waiters stand ∙ sym (map-of_map (taken_of whole) (λ w. taking w (length events)) takers))
-      (grown-once plan events event starts fresh (map (seen events) (all_waiters plan events event starts fresh waiters stand)) (all-stand plan events event starts fresh waiters stand)))
+      (grown-once plan events event starts fresh (map (seen events) (all_waiters plan events event starts fresh waiters stand))
+      (all-stand plan events event starts fresh waiters stand)))
 
-  module _ (buffer : BufferContent) (has : HoldsLists plan whole held buffer) (key : ℕ) (row : Standing) (found : slot_at buffer.events key ≡ Some row) (at : row.position ≡ length events) where
-    can-take : (w : Waiter) → ((first : Entry) (later : List Entry) → w.list ≡ first ∷ later → 0 < held w.list w.node) → waits plan events w.list w.stage ≡ true → is_taking plan events event w ≡ true → CanTake plan whole (length events) held buffer w
+  module _ (buffer : BufferContent) (has : HoldsLists plan whole held buffer) (key : ℕ) (row : Standing)
+      (found : slot_at buffer.events key ≡ Some row) (at : row.position ≡ length events) where
+    can-take : (w : Waiter) → ((first : Entry) (later : List Entry) → w.list ≡ first ∷ later → 0 < held w.list w.node)
+        → waits plan events w.list w.stage ≡ true → is_taking plan events event w ≡ true → CanTake plan whole (length events) held buffer w
     can-take w own waiting taking_it =
         let inside : AreAmong events w.list = waits-among plan events w.list w.stage waiting in
         record {
@@ -150,32 +161,48 @@ module _ (plan : Plan) (fit : IsCompilable plan) (events : List Event) (event : 
           new = λ k. new-list w.list w.stage k waiters among;
         }
 
-    can-firsts : (ws : List Wait) → Each (λ (w : Waiter). (waits plan events w.list w.stage ≡ true) × (begins_in starts w.list ≡ true)) (map (λ wait. record { list = []; stage = wait.stage; node = 0 }) ws)
-        → Each (CanTake plan whole (length events) held buffer) (filter (is_taking plan events event) (map (λ wait. record { list = []; stage = wait.stage; node = 0 }) ws))
+    can-firsts : (ws : List Wait)
+        → Each (λ (w : Waiter). (waits plan events w.list w.stage ≡ true) × (begins_in starts w.list ≡ true))
+        (map (λ wait. record { list = []; stage = wait.stage; node = 0 }) ws)
+        → Each (CanTake plan whole (length events) held buffer)
+        (filter (is_taking plan events event) (map (λ wait. record { list = []; stage = wait.stage; node = 0 }) ws))
     can-firsts [] h = tt
     can-firsts (wait ∷ ws) h = by_test (is_taking plan events event first) refl (can-firsts ws h.1) where
       first : Waiter
       first = record { list = []; stage = wait.stage; node = 0 }
 
-      by_test : (b : Bool) → is_taking plan events event first ≡ b → Each (CanTake plan whole (length events) held buffer) (filter (is_taking plan events event) (map (λ wait. record { list = []; stage = wait.stage; node = 0 }) ws))
-          → Each (CanTake plan whole (length events) held buffer) (cond b (first ∷ filter (is_taking plan events event) (map (λ wait. record { list = []; stage = wait.stage; node = 0 }) ws)) (filter (is_taking plan events event) (map (λ wait. record { list = []; stage = wait.stage; node = 0 }) ws)))
+      by_test : (b : Bool) → is_taking plan events event first ≡ b
+          → Each (CanTake plan whole (length events) held buffer)
+          (filter (is_taking plan events event) (map (λ wait. record { list = []; stage = wait.stage; node = 0 }) ws))
+          → Each (CanTake plan whole (length events) held buffer)
+          (cond b (first ∷ filter (is_taking plan events event) (map (λ wait. record { list = []; stage = wait.stage; node = 0 }) ws))
+          (filter (is_taking plan events event) (map (λ wait. record { list = []; stage = wait.stage; node = 0 }) ws)))
       by_test true is more = (can-take first (λ f l bad. absurd cc) h.0.0 is, more)
       by_test false is more = more
 
-    can-rest : (done rest : List Waiter) → waiters ≡ done ++ rest → Each (λ w. (waits plan events w.list w.stage ≡ true) × (begins_in starts w.list ≡ true)) rest
+    can-rest : (done rest : List Waiter) → waiters ≡ done ++ rest
+        → Each (λ w. (waits plan events w.list w.stage ≡ true) × (begins_in starts w.list ≡ true)) rest
         → Each (CanTake plan whole (length events) held buffer) (filter (is_taking plan events event) rest)
     can-rest done [] parts h = tt
-    can-rest done (w ∷ rest) parts h = by_test (is_taking plan events event w) refl (can-rest (done ++ w ∷ []) rest (parts ∙ sym (append_assoc done (w ∷ []) rest)) h.1) where
-      by_test : (b : Bool) → is_taking plan events event w ≡ b → Each (CanTake plan whole (length events) held buffer) (filter (is_taking plan events event) rest)
-          → Each (CanTake plan whole (length events) held buffer) (cond b (w ∷ filter (is_taking plan events event) rest) (filter (is_taking plan events event) rest))
-      by_test true is more = (can-take w (λ f l same. subst (λ (ws : List Waiter). 0 < held_by (map holder_of ws) w.list w.node) (sym parts) (holds-own done rest w)) h.0.0 is, more)
-      by_test false is more = more
+    can-rest done (w ∷ rest) parts h =
+        by_test (is_taking plan events event w) refl (can-rest (done ++ w ∷ []) rest (parts ∙ sym (append_assoc done (w ∷ []) rest)) h.1) where
+          by_test : (b : Bool) → is_taking plan events event w ≡ b
+              → Each (CanTake plan whole (length events) held buffer) (filter (is_taking plan events event) rest)
+              → Each (CanTake plan whole (length events) held buffer)
+              (cond b (w ∷ filter (is_taking plan events event) rest) (filter (is_taking plan events event) rest))
+          by_test true is more = (
+            can-take w (λ f l same. subst (λ (ws : List Waiter). 0 < held_by (map holder_of ws) w.list w.node) (sym parts) (holds-own done rest w))
+                h.0.0 is,
+            more,
+          )
+          by_test false is more = more
 
     can-all : Each (CanTake plan whole (length events) held buffer) takers
     can-all =
         let both = each-waits plan events event starts fresh waiters stand in
         subst (Each (CanTake plan whole (length events) held buffer)) (sym (filter-of_append (is_taking plan events event) (first_waiters plan) waiters))
-        (Each-join (CanTake plan whole (length events) held buffer) (filter (is_taking plan events event) (first_waiters plan)) (filter (is_taking plan events event) waiters)
+        (Each-join (CanTake plan whole (length events) held buffer) (filter (is_taking plan events event) (first_waiters plan))
+        (filter (is_taking plan events event) waiters)
         (can-firsts (waits_of plan []) (Each-front _ (first_waiters plan) waiters both))
         (can-rest [] waiters refl (Each-behind _ (first_waiters plan) waiters both)))
 

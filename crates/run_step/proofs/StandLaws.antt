@@ -15,6 +15,7 @@ use Rattle.list_buffer.specs.Held.{Holder, has, held_by, both_hold}
 use Rattle.list_buffer.specs.Listed.{HoldsLists}
 use Rattle.list_buffer.proofs.HeldLaws.{held_by-cons, held_by-append}
 use Rattle.list_buffer.proofs.LaterLaws.{HoldsLists-same}
+use Rattle.run_judge.specs.Fate.{AreSumsOf}
 use Rattle.run_step.specs.declared.runs.Run.{Run}
 use Rattle.run_step.specs.declared.runs.Tip.{Tip}
 use Rattle.run_step.specs.declared.passing.Grown.{Grown}
@@ -37,17 +38,35 @@ use Rattle.list_runs.proofs.SortLaws.{matches_at-completed}
 
 -- the holds of those that pass a test, and of those that don't
 pub held-split : (test : Waiter → Bool) (waiters : List Waiter) (list : List Entry) (key : ℕ)
-    → held_by (map holder_of waiters) list key ≡ held_by (map holder_of (filter test waiters)) list key + held_by (map holder_of (filter (λ w. not (test w)) waiters)) list key
+    → held_by (map holder_of waiters) list key
+    ≡ held_by (map holder_of (filter test waiters)) list key + held_by (map holder_of (filter (λ w. not (test w)) waiters)) list key
 held-split test [] list key = omega arith
 held-split test (w ∷ waiters) list key = by_test (test w) (held-split test waiters list key) where
   by_test : (b : Bool)
-      → held_by (map holder_of waiters) list key ≡ held_by (map holder_of (filter test waiters)) list key + held_by (map holder_of (filter (λ w. not (test w)) waiters)) list key
+      → held_by (map holder_of waiters) list key
+      ≡ held_by (map holder_of (filter test waiters)) list key + held_by (map holder_of (filter (λ w. not (test w)) waiters)) list key
       → held_by (holder_of w ∷ map holder_of waiters) list key
-      ≡ held_by (map holder_of (cond b (w ∷ filter test waiters) (filter test waiters))) list key + held_by (map holder_of (cond (not b) (w ∷ filter (λ w. not (test w)) waiters) (filter (λ w. not (test w)) waiters))) list key
-  by_test true rest = omega (arith, rest, held_by-cons (holder_of w) (map holder_of waiters) list key, held_by-cons (holder_of w) (map holder_of (filter test waiters)) list key)
-  by_test false rest = omega (arith, rest, held_by-cons (holder_of w) (map holder_of waiters) list key, held_by-cons (holder_of w) (map holder_of (filter (λ w. not (test w)) waiters)) list key)
+      ≡ held_by (map holder_of (cond b (w ∷ filter test waiters) (filter test waiters))) list key + held_by
+      (map holder_of (cond (not b) (w ∷ filter (λ w. not (test w)) waiters) (filter (λ w. not (test w)) waiters))) list key
+  by_test true rest =
+      omega (
+        arith,
+        rest,
+        held_by-cons (holder_of w) (map holder_of waiters) list key,
+        held_by-cons (holder_of w)
+            (map holder_of (filter test waiters)) list key,
+      )
+  by_test false rest =
+      omega (
+        arith,
+        rest,
+        held_by-cons (holder_of w) (map holder_of waiters) list key,
+        held_by-cons (holder_of w)
+            (map holder_of (filter (λ w. not (test w)) waiters)) list key,
+      )
 
-pub AreRunsOf-append : (plan : Plan) (events : List Event) (ws vs : List Waiter) (runs more : List Staged) → AreRunsOf plan events ws runs → AreRunsOf plan events vs more → AreRunsOf plan events (ws ++ vs) (runs ++ more)
+pub AreRunsOf-append : (plan : Plan) (events : List Event) (ws vs : List Waiter) (runs more : List Staged) → AreRunsOf plan events ws runs
+    → AreRunsOf plan events vs more → AreRunsOf plan events (ws ++ vs) (runs ++ more)
 AreRunsOf-append plan events [] vs [] more are also = also
 AreRunsOf-append plan events [] vs (r ∷ runs) more are also = absurd are
 AreRunsOf-append plan events (w ∷ ws) vs [] more are also = absurd are
@@ -90,19 +109,23 @@ record Reordered (plan : Plan) (events : List Event) (waiters : List Waiter) (ru
   moved : IsPermutation waiters others
   are : AreRunsOf plan events others runs
 
-reordered : (plan : Plan) (events : List Event) (waiters : List Waiter) (runs others : List Staged) → AreRunsOf plan events waiters runs → IsPermutation runs others → Reordered plan events waiters others
+reordered : (plan : Plan) (events : List Event) (waiters : List Waiter) (runs others : List Staged) → AreRunsOf plan events waiters runs
+    → IsPermutation runs others → Reordered plan events waiters others
 reordered plan events waiters runs others are moved =
     let zipped = zip plan events waiters runs are in
     let found = IsPermutation-keeps runs (λ l. Zipped plan events zipped.0 l) (zipped.0, IsPermutation-refl zipped.0, zipped.2)
     (λ l i j p q so_far.
     let long : length so_far.0 ≡ length l = sym (length-mapped (λ (z : Pair plan events). z.staged) so_far.0) ∙ ap length so_far.2 in (
       swap so_far.0 i j,
-      IsPermutation-trans zipped.0 so_far.0 (swap so_far.0 i j) so_far.1 (IsPermutation-swap so_far.0 (swap so_far.0 i j) i j (omega (arith, long, p)) (omega (arith, long, q)) refl),
+      IsPermutation-trans zipped.0 so_far.0 (swap so_far.0 i j) so_far.1
+          (IsPermutation-swap so_far.0 (swap so_far.0 i j) i j (omega (arith, long, p)) (omega (arith, long, q)) refl),
       map-swap (λ (z : Pair plan events). z.staged) so_far.0 i j ∙ ap (λ (m : List Staged). swap m i j) so_far.2,
     )) others moved in
     record {
       others = map (λ (z : Pair plan events). z.waiter) found.0;
-      moved = subst (λ (ws : List Waiter). IsPermutation ws (map (λ (z : Pair plan events). z.waiter) found.0)) zipped.1 (IsPermutation-map (λ (z : Pair plan events). z.waiter) zipped.0 found.0 found.1);
+      moved =
+          subst (λ (ws : List Waiter). IsPermutation ws (map (λ (z : Pair plan events). z.waiter) found.0)) zipped.1
+          (IsPermutation-map (λ (z : Pair plan events). z.waiter) zipped.0 found.0 found.1);
       are = subst (AreRunsOf plan events (map (λ (z : Pair plan events). z.waiter) found.0)) found.2 (unzip plan events found.0);
     }
 
@@ -110,13 +133,17 @@ stand-reordered : (plan : Plan) (events : List Event) (starts : ℕ → Bool) (w
     → StandsFor plan events starts (runs_of plan [] ++ map (seen events) waiters) → StandsFor plan events starts (runs_of plan [] ++ map (seen events) others)
 stand-reordered plan events starts waiters others moved stand =
     StandsFor-moved plan events starts (runs_of plan [] ++ map (seen events) waiters) (runs_of plan [] ++ map (seen events) others)
-    (IsPermutation-append_right (runs_of plan []) (map (seen events) waiters) (map (seen events) others) (IsPermutation-map (seen events) waiters others moved)) stand
+    (IsPermutation-append_right (runs_of plan []) (map (seen events) waiters) (map (seen events) others)
+    (IsPermutation-map (seen events) waiters others moved)) stand
 
-held-reordered : (waiters others : List Waiter) → IsPermutation waiters others → (list : List Entry) (key : ℕ) → held_by (map holder_of waiters) list key ≡ held_by (map holder_of others) list key
+held-reordered : (waiters others : List Waiter) → IsPermutation waiters others → (list : List Entry) (key : ℕ)
+    → held_by (map holder_of waiters) list key ≡ held_by (map holder_of others) list key
 held-reordered waiters others moved list key =
-    sym (sum_by-IsPermutation (λ h. cond (has list key h) 1 0) (map holder_of waiters) (map holder_of others) (IsPermutation-map holder_of waiters others moved))
+    sym (sum_by-IsPermutation (λ h. cond (has list key h) 1 0) (map holder_of waiters) (map holder_of others)
+    (IsPermutation-map holder_of waiters others moved))
 
-module _ (plan : Plan) (events : List Event) (event : Event) (starts : ℕ → Bool) (fresh : starts (length events) ≡ true) (waiters : List Waiter) (stand : StandsFor plan events starts (runs_of plan [] ++ map (seen events) waiters)) where
+module _ (plan : Plan) (events : List Event) (event : Event) (starts : ℕ → Bool) (fresh : starts (length events) ≡ true) (waiters : List Waiter)
+    (stand : StandsFor plan events starts (runs_of plan [] ++ map (seen events) waiters)) where
   abbrev whole : List Event
   whole = events ++ event ∷ []
 
@@ -130,7 +157,8 @@ module _ (plan : Plan) (events : List Event) (event : Event) (starts : ℕ → B
   takers = filter (is_taking plan events event) (first_waiters plan ++ waiters)
 
   -- after the puts the runs that end can end
-  pub ends-can : (grown : List Grown) (ended : List Run) (buffer : BufferContent) → (put : HasPutAll plan whole (length events) takers (held_by (map holder_of waiters)) grown buffer)
+  pub ends-can : (grown : List Grown) (ended : List Run) (buffer : BufferContent)
+      → (put : HasPutAll plan whole (length events) takers (held_by (map holder_of waiters)) grown buffer)
       → AreHeldRuns plan whole (map holder_of ending) ended
       → CanEndAll plan whole (map holder_of ending) (both_hold (held_by (map holder_of staying)) (held_by put.holders)) ended buffer
   ends-can grown ended buffer put are = record {
@@ -139,16 +167,19 @@ module _ (plan : Plan) (events : List Event) (event : Event) (starts : ℕ → B
     runs_are = are;
   }
 
-  module _ (holders : List Holder) (lists : map (λ holder. holder.list) holders ≡ map (λ w. taking w (length events)) takers) (fresh_runs : List Fresh) (tips : List Tip) (buffer : BufferContent)
+  module _ (holders : List Holder) (lists : map (λ holder. holder.list) holders ≡ map (λ w. taking w (length events)) takers)
+      (fresh_runs : List Fresh) (tips : List Tip) (buffer : BufferContent)
       (begun : HasBegunAll plan whole holders (held_by (map holder_of staying)) fresh_runs tips buffer) where
     abbrev after : List Waiter
     after = staying ++ flat_map (waiters_of plan) holders
 
     -- put in order, the lists of the tips are the matches that end at the event
-    matches-are : (made : List (List Taken)) → IsPermutation (map (λ holder. taken_of whole holder.list) (full_ones plan holders)) made → IsSortedBy comes_earlier made
+    matches-are : (made : List (List Taken)) → IsPermutation (map (λ holder. taken_of whole holder.list) (full_ones plan holders)) made
+        → IsSortedBy comes_earlier made
         → made ≡ map (taken_of whole) (filter (begins_in starts) (matches_at plan events event))
     matches-are made moved sorted =
-        matches_at-completed plan events event starts fresh (map (seen events) (all_waiters plan events event starts fresh waiters stand)) (all-stand plan events event starts fresh waiters stand) made
+        matches_at-completed plan events event starts fresh (map (seen events) (all_waiters plan events event starts fresh waiters stand))
+        (all-stand plan events event starts fresh waiters stand) made
         (subst (λ (l : List (List Taken)). IsPermutation l made) (sym (completed-are plan events event starts fresh waiters stand holders lists)) moved) sorted
 
     -- all that is held: the waiters after the step, and the tips
@@ -160,9 +191,10 @@ module _ (plan : Plan) (events : List Event) (event : Event) (starts : ℕ → B
         omega (arith, split)) begun.has
 
     -- The step as a whole.
-    pub has-stepped : (content : Content) (runs : List Staged) → AreRunsOf plan whole staying runs → content.position ≡ length events + 1 → content.bumps ≡ bumps_of plan whole
+    pub has-stepped : (content : Content) (runs : List Staged) → AreRunsOf plan whole staying runs → content.position ≡ length events + 1
+        → content.bumps ≡ bumps_of plan whole → AreSumsOf plan [] content.empty
         → IsPermutation (runs ++ map fresh_run fresh_runs) content.runs → HasStepped plan events event starts [] tips content buffer
-    has-stepped content runs are counted bumps moved =
+    has-stepped content runs are counted bumps empty moved =
         let all = AreRunsOf-append plan whole staying (flat_map (waiters_of plan) holders) runs (map fresh_run fresh_runs) are begun.runs in
         let order = reordered plan whole after (runs ++ map fresh_run fresh_runs) content.runs all moved in
         let full = full_ones plan holders in
@@ -173,14 +205,20 @@ module _ (plan : Plan) (events : List Event) (event : Event) (starts : ℕ → B
           stands = record {
             counted = omega (arith, counted, length-append events (event ∷ []));
             bumps = bumps;
+            empty = empty;
             waiters = order.others;
-            stand = stand-reordered plan whole starts after order.others order.moved (stands-stepped plan events event starts fresh waiters stand holders lists);
+            stand =
+                stand-reordered plan whole starts after order.others order.moved
+                (stands-stepped plan events event starts fresh waiters stand holders lists);
             runs = order.are;
             ahead = [];
             one_ahead = omega arith;
-            held = subst (λ (es : List Event). HoldsLists plan es (both_hold (held_by (map holder_of order.others)) (held_by (full ++ []))) buffer) (sym (append-nil whole))
+            held =
+                subst (λ (es : List Event). HoldsLists plan es (both_hold (held_by (map holder_of order.others)) (held_by (full ++ []))) buffer)
+                (sym (append-nil whole))
                 (HoldsLists-same plan whole _ (both_hold (held_by (map holder_of order.others)) (held_by (full ++ []))) buffer
-                (λ list key. let same = held-reordered after order.others order.moved list key in let none = ap (λ (hs : List Holder). held_by hs list key) (append-nil full) in omega (arith, same, none)) held-after);
+                (λ list key. let same = held-reordered after order.others order.moved list key in
+                let none = ap (λ (hs : List Holder). held_by hs list key) (append-nil full) in omega (arith, same, none)) held-after);
           };
           none_ahead = refl;
         }

@@ -1,5 +1,5 @@
 -- The take of a run is that of its list.
-use Rattle.std.proofs.Common.{◌≡◌, refl, sym, ◌∙◌, ap, subst, ℕ, zero, suc, ◌+◌, ◌*◌, ◌^◌, ◌<◌, ◌≤◌, arith, Bool, true, false, cond, List, [], ◌∷◌, ◌++◌, length, map, get_or, Some}
+use Rattle.std.proofs.Common.{◌≡◌, refl, sym, ◌∙◌, ap, subst, ℕ, zero, suc, ◌+◌, ◌-◌, ◌*◌, ◌^◌, ◌<◌, ◌≤◌, arith, Bool, true, false, cond, List, [], ◌∷◌, ◌++◌, length, map, get_or, Some, None}
 use Rattle.std.specs.Prelude.{slice_get, filter, count_by}
 use Rattle.std.proofs.lemmas.List.Sums.{sum_by-cons}
 use Rattle.live_laws.proofs.PartialLaws.{may_grow-length}
@@ -7,18 +7,23 @@ use Rattle.std.specs.List.{range_with_len}
 use Rattle.std.proofs.lemmas.List.{map-append}
 use Rattle.cep_event.specs.declared.event.Event.{Event}
 use Rattle.cep_plan.specs.declared.plan.Plan.{Plan}
-use Rattle.cep_plan.specs.Entry.{Entry, event_at, stages_of}
+use Rattle.cep_plan.specs.declared.item.Taken.{Taken}
+use Rattle.cep_plan.specs.Entry.{Entry, event_at, taken_at, stages_of}
 use Rattle.cep_plan.specs.Follow.{may_follow}
 use Rattle.cep_plan.proofs.LocalLaws.{AreAmong, event_at-append}
 use Rattle.nfa_compile.specs.declared.nfa.Wait.{Wait}
 use Rattle.nfa_compile.specs.declared.nfa.Nfa.{Nfa}
 use Rattle.nfa_compile.specs.Automaton.{number_of_list, wait_for, waits_of, waits_in}
 use Rattle.nfa_compile.proofs.AutomatonLaws.{number_after_take, waits_of_list}
-use Rattle.live_laws.proofs.WaitLaws.{waits-may_grow, waits-among, taken_of-push}
+use Rattle.live_laws.proofs.WaitLaws.{waits-may_grow, waits-among}
+use Rattle.live_laws.proofs.LastLaws.{last_or-push}
 use Rattle.match_labels.specs.Label.{Mark, no_mark, stays, branches_off, branches_below, branches_in, step_digits, mark_behind, mark_from, mark_of}
 use Rattle.run_step.specs.declared.runs.Run.{Run}
 use Rattle.run_step.specs.declared.passing.Take.{Take}
-use Rattle.run_step.specs.Runs.{Waiter}
+use Rattle.cond_sums.specs.Kept.{wanted_in, StandsFor}
+use Rattle.run_judge.specs.declared.gap.Last.{Last}
+use Rattle.run_step.specs.Runs.{Waiter, entry_of}
+use Rattle.run_step.proofs.SumsLaws.{sums-taken}
 use Rattle.run_step.specs.Taking.{first_of, pred_of, label_after, digit_after, IsTakeOf, CanTakeRun}
 use Rattle.run_step.proofs.DigitLaws.{mark_after}
 
@@ -51,7 +56,12 @@ pub waits_few : (plan : Plan) (so_far : List ℕ) → length (waits_of plan so_f
 unfolding waits_of
 waits_few plan so_far =
     let all = range_with_len 0 (length plan.stages) in
-    omega (arith, length-mapped (wait_for plan so_far) (filter (may_follow plan so_far) all), length-filter (may_follow plan so_far) all, length-range 0 (length plan.stages))
+    omega (
+      arith,
+      length-mapped (wait_for plan so_far) (filter (may_follow plan so_far) all),
+      length-filter (may_follow plan so_far) all,
+      length-range 0 (length plan.stages),
+    )
 
 pub count_by-all : {X : Type 0} (test : X → Bool) (xs : List X) → count_by test xs ≤ length xs
 count_by-all test [] = omega arith
@@ -66,14 +76,18 @@ branches_few : (plan : Plan) (so_far : List ℕ) → branches_in plan so_far ≤
 unfolding branches_below
 branches_few plan so_far = omega (arith, count_by-all (branches_off plan so_far) (range_with_len 0 (length plan.stages)), length-range 0 (length plan.stages))
 
-behind_few : (plan : Plan) (events : List Event) (list : List Entry) (mark : Mark) (next : Entry) → (mark_behind plan events list mark next).next ≤ mark.next + length plan.stages
+behind_few : (plan : Plan) (events : List Event) (list : List Entry) (mark : Mark) (next : Entry)
+    → (mark_behind plan events list mark next).next ≤ mark.next + length plan.stages
 unfolding mark_behind
 behind_few plan events list mark next = by_test (stays plan (stages_of list) next.stage) where
-  by_test : (b : Bool) → (cond {A = Mark} b (record { label = mark.label; next = mark.next + branches_in plan (stages_of list) }) (record { label = mark.label ++ step_digits plan events list next mark.next; next = 0 })).next ≤ mark.next + length plan.stages
+  by_test : (b : Bool)
+      → (cond {A = Mark} b (record { label = mark.label; next = mark.next + branches_in plan (stages_of list) })
+      (record { label = mark.label ++ step_digits plan events list next mark.next; next = 0 })).next ≤ mark.next + length plan.stages
   by_test true = omega (arith, branches_few plan (stages_of list))
   by_test false = omega arith
 
-from_few : (plan : Plan) → length plan.stages ≤ 64 → (events : List Event) (list : List Entry) (mark : Mark) (later : List Entry) → (mark_from plan events list mark later).next ≤ mark.next + 64 * length later
+from_few : (plan : Plan) → length plan.stages ≤ 64 → (events : List Event) (list : List Entry) (mark : Mark) (later : List Entry)
+    → (mark_from plan events list mark later).next ≤ mark.next + 64 * length later
 from_few plan stages events list mark [] = omega arith
 from_few plan stages events list mark (next ∷ later) =
     let rest = from_few plan stages events (list ++ next ∷ []) (mark_behind plan events list mark next) later in
@@ -90,7 +104,8 @@ got_at [] i x lt is = absurd (omega (arith, lt))
 got_at (y ∷ xs) zero x lt is = ap Some (sym is)
 got_at (y ∷ xs) (suc i) x lt is = got_at xs i x (omega (arith, lt)) is
 
-module _ (plan : Plan) (events : List Event) (event : Event) (position : ℕ) (waiter : Waiter) (run : Run) (nfa : Nfa) (can : CanTakeRun plan events position waiter run nfa) where
+module _ (plan : Plan) (events : List Event) (event : Event) (position : ℕ) (waiter : Waiter) (run : Run) (nfa : Nfa)
+    (can : CanTakeRun plan events position waiter run nfa) where
   so_far : List ℕ
   so_far = stages_of waiter.list
 
@@ -118,7 +133,13 @@ module _ (plan : Plan) (events : List Event) (event : Event) (position : ℕ) (w
       omega (arith, can.run_is.digit_is, few, short, can.at, can.small)
 
   first_start : run.start ≡ (first_of waiter.list (record { stage = waiter.stage; position = position })).position
-  first_start = can.run_is.begins.start_is ∙ ap (λ (l : List Entry). (first_of l (record { stage = waiter.stage; position = position })).position) (sym can.run_is.begins.parts)
+  first_start = can.run_is.begins.start_is
+      ∙ ap (λ (l : List Entry). (first_of l (record { stage = waiter.stage; position = position })).position) (sym can.run_is.begins.parts)
+
+  pub sums_room : run.sums.taken < 2 ^ 32 - 1
+  sums_room =
+      let short = may_grow-length plan events waiter.list (waits-may_grow plan events waiter.list waiter.stage can.waiting) in
+      omega (arith, can.run_is.sums.stand.taken, length-mapped (taken_at events) waiter.list, short, can.at, can.small)
 
   -- what the code has made
   pub take_is : (wait : Wait) → slice_get (waits_in nfa run.wait.state) run.wait.number ≡ Some wait → (taken : Take)
@@ -126,9 +147,11 @@ module _ (plan : Plan) (events : List Event) (event : Event) (position : ℕ) (w
       → taken.version ≡ label_after (waits_in nfa run.wait.state) run.wait.number wait run.version run.next_digit run.bump
       → taken.next_digit ≡ digit_after (waits_in nfa run.wait.state) wait run.next_digit
       → taken.start ≡ run.start → taken.start_ts ≡ run.start_ts
-      → taken.taken ≡ run.taken ++ record { stage = wait.stage; position = position; event = event } ∷ []
+      → taken.last ≡ record { stage = wait.stage; position = position } → wanted_in taken.sums ≡ wanted_in run.sums
+      → ((before : List Taken) (at : ℕ) → StandsFor run.sums plan.types before
+      → StandsFor taken.sums plan.types (before ++ record { stage = wait.stage; position = at; event = event } ∷ []))
       → IsTakeOf plan (events ++ event ∷ []) position waiter taken
-  take_is wait found taken stage state pred version digit start time list =
+  take_is wait found taken stage state pred version digit start time last asked told =
       let both : Some wait ≡ Some (wait_for plan (stages_of waiter.list) waiter.stage) = sym found ∙ wait_at in
       let same : wait ≡ wait_for plan (stages_of waiter.list) waiter.stage = cc in
       let named : wait.stage ≡ waiter.stage = ap (λ (w : Wait). w.stage) same ∙ wait_stage plan (stages_of waiter.list) waiter.stage in
@@ -141,10 +164,14 @@ module _ (plan : Plan) (events : List Event) (event : Event) (position : ℕ) (w
         state_is = state ∙ ap (λ (w : Wait). w.state) same ∙ sym (number_after_take plan (stages_of waiter.list) waiter.stage)
             ∙ sym (ap (number_of_list plan) (map-append (λ (e : Entry). e.stage) waiter.list (record { stage = waiter.stage; position = length events } ∷ [])));
         pred_is = pred ∙ ap Some of.node_is ∙ sym (ap (λ l. pred_of l waiter.node) of.begins.parts);
-        version_is = version ∙ (λ i. label_after (waits_are i) run.wait.number (same i) (of.version_is i) (of.digit_is i) (of.bump_is i)) ∙ sym (ap (λ (m : Mark). m.label) mark);
+        version_is = version ∙ (λ i. label_after (waits_are i) run.wait.number (same i) (of.version_is i) (of.digit_is i) (of.bump_is i))
+            ∙ sym (ap (λ (m : Mark). m.label) mark);
         digit_is = digit ∙ (λ i. digit_after (waits_are i) (same i) (of.digit_is i)) ∙ sym (ap (λ (m : Mark). m.next) mark);
-        start_is = start ∙ of.begins.start_is ∙ sym (ap (λ l. (first_of l (record { stage = waiter.stage; position = length events })).position) of.begins.parts);
+        start_is = start ∙ of.begins.start_is
+            ∙ sym (ap (λ l. (first_of l (record { stage = waiter.stage; position = length events })).position) of.begins.parts);
         time_is = time ∙ of.begins.time_is ∙ sym (ap (λ (e : Event). e.ts) (event_at-append events (event ∷ []) of.begins.first.position inside))
-            ∙ sym (ap (λ l. (event_at (events ++ event ∷ []) (first_of l (record { stage = waiter.stage; position = length events })).position).ts) of.begins.parts);
-        taken_is = list ∙ (λ i. of.taken_is i ++ record { stage = named i; position = can.at i; event = event } ∷ []) ∙ sym (taken_of-push events event waiter.list waiter.stage among);
+            ∙ sym (ap (λ l. (event_at (events ++ event ∷ []) (first_of l (record { stage = waiter.stage; position = length events })).position).ts)
+            of.begins.parts);
+        last_is = last_or-push None waiter.list _ ∙ sym (ap (λ (l : Last). Some (entry_of l)) (last ∙ (λ i. record { stage = named i; position = can.at i })));
+        sums = sums-taken plan events event waiter.list waiter.stage wait.stage run.sums taken.sums among named asked told of.sums;
       })

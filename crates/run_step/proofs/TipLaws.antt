@@ -29,13 +29,17 @@ module _ (nfa : Nfa) (start : ℕ) where
 
   pub shown-before : (runs : List Run) → Each (λ (run : Run). run.start < start) runs → filter (is_shown nfa start) runs ≡ []
   shown-before runs below =
-      filter-none (is_shown nfa start) runs (Each-mapped (λ (run : Run). run.start < start) (λ run. is_shown nfa start run ≡ false) (λ run lt. elsewhere run (λ e. omega (arith, lt, e))) runs below)
+      filter-none (is_shown nfa start) runs (Each-mapped (λ (run : Run). run.start < start) (λ run. is_shown nfa start run ≡ false)
+      (λ run lt. elsewhere run (λ e. omega (arith, lt, e))) runs below)
 
-  pub shown-front : (runs : List Run) (end : ℕ) → Each (λ (run : Run). start < run.start) (drop end runs) → filter (is_shown nfa start) (take end runs) ≡ filter (is_shown nfa start) runs
+  pub shown-front : (runs : List Run) (end : ℕ) → Each (λ (run : Run). start < run.start) (drop end runs)
+      → filter (is_shown nfa start) (take end runs) ≡ filter (is_shown nfa start) runs
   shown-front runs end above =
-      filter-front (is_shown nfa start) runs end (Each-mapped (λ (run : Run). start < run.start) (λ run. is_shown nfa start run ≡ false) (λ run lt. elsewhere run (λ e. omega (arith, lt, e))) (drop end runs) above)
+      filter-front (is_shown nfa start) runs end (Each-mapped (λ (run : Run). start < run.start) (λ run. is_shown nfa start run ≡ false)
+      (λ run lt. elsewhere run (λ e. omega (arith, lt, e))) (drop end runs) above)
 
-pub starts-order : (start : ℕ) (runs : List Run) (first end : ℕ) → first ≤ length runs → Each (λ (run : Run). run.start < start) (take first runs) → Each (λ (run : Run). start < run.start) (drop end runs) → first ≤ end
+pub starts-order : (start : ℕ) (runs : List Run) (first end : ℕ) → first ≤ length runs → Each (λ (run : Run). run.start < start) (take first runs)
+    → Each (λ (run : Run). start < run.start) (drop end runs) → first ≤ end
 starts-order start runs first end bound before behind =
     places runs first end start (start + 1) (omega arith) bound before
     (Each-mapped (λ (run : Run). start < run.start) (λ (run : Run). start + 1 ≤ run.start) (λ run lt. omega (arith, lt)) (drop end runs) behind)
@@ -80,20 +84,27 @@ repeats-same : (tip : Tip) (o : Option Tip) → repeats is_same_tip tip o ≡ re
 repeats-same tip None = refl
 repeats-same tip (Some last) = refl
 
-pushed : (xs : List Tip) (tip : Tip) → dedup is_same_tip (xs ++ tip ∷ []) ≡ cond (repeats_last tip (last_or None (dedup is_same_tip xs))) (dedup is_same_tip xs) (dedup is_same_tip xs ++ tip ∷ [])
+pushed : (xs : List Tip) (tip : Tip)
+    → dedup is_same_tip (xs ++ tip ∷ [])
+    ≡ cond (repeats_last tip (last_or None (dedup is_same_tip xs))) (dedup is_same_tip xs) (dedup is_same_tip xs ++ tip ∷ [])
 pushed xs tip =
-    dedup-push is_same_tip xs tip ∙ ap (λ b. cond b (dedup is_same_tip xs) (dedup is_same_tip xs ++ tip ∷ [])) (repeats-same tip (last_or None (dedup is_same_tip xs)))
+    dedup-push is_same_tip xs tip
+    ∙ ap (λ b. cond b (dedup is_same_tip xs) (dedup is_same_tip xs ++ tip ∷ [])) (repeats-same tip (last_or None (dedup is_same_tip xs)))
 
 -- the step of a loop that leaves repeats out
-pub kept_more : (xs kept made : List Tip) (tip : Tip) → kept ≡ dedup is_same_tip xs → made ≡ cond (repeats_last tip (last_or None kept)) kept (kept ++ tip ∷ []) → made ≡ dedup is_same_tip (xs ++ tip ∷ [])
+pub kept_more : (xs kept made : List Tip) (tip : Tip) → kept ≡ dedup is_same_tip xs
+    → made ≡ cond (repeats_last tip (last_or None kept)) kept (kept ++ tip ∷ []) → made ≡ dedup is_same_tip (xs ++ tip ∷ [])
 kept_more xs kept made tip is added = added ∙ (λ i. cond (repeats_last tip (last_or None (is i))) (is i) (is i ++ tip ∷ [])) ∙ sym (pushed xs tip)
 
 -- strictly in order, no two are the same
 apart_from_strict : (tips : List Tip) → IsStrictlySortedBy tip_cmp tips → AllApart tips
 unfolding IsStrictlySortedBy
 apart_from_strict [] h = tt
-apart_from_strict (x ∷ xs) h =
-    (Each-mapped (λ (y : Tip). tip_cmp x y ≡ Less) (λ y. x ≡ y → ⊥) (λ y less e. let no : Less ≡ Equal = sym less ∙ ap (tip_cmp x) (sym e) ∙ tip_cmp-refl x in absurd cc) xs h.0, apart_from_strict xs h.1)
+apart_from_strict (x ∷ xs) h = (
+  Each-mapped (λ (y : Tip). tip_cmp x y ≡ Less) (λ y. x ≡ y → ⊥)
+      (λ y less e. let no : Less ≡ Equal = sym less ∙ ap (tip_cmp x) (sym e) ∙ tip_cmp-refl x in absurd cc) xs h.0,
+  apart_from_strict xs h.1,
+)
 
 -- sorted, and without repeats of the one before, no two are the same
 pub apart_from_dedup : (tips : List Tip) → IsSortedBy comes_before tips → AllApart (dedup is_same_tip tips)

@@ -67,7 +67,9 @@ pub record HasBegun (plan : Plan) (events : List Event) (holder : Holder) (held 
 pub record HasBegunAll (plan : Plan) (events : List Event) (holders : List Holder) (held : Holds) (fresh : List Fresh) (tips : List Tip) (buffer : BufferContent) : Type 0 where
   pub runs : AreRunsOf plan events (flat_map (waiters_of plan) holders) (map fresh_run fresh)
   pub shown : AreTipsOf plan events (full_ones plan holders) tips
-  pub has : HoldsLists plan events (both_hold held (both_hold (held_by (map holder_of (flat_map (waiters_of plan) holders))) (held_by (full_ones plan holders)))) buffer
+  pub has :
+      HoldsLists plan events (both_hold held (both_hold (held_by (map holder_of (flat_map (waiters_of plan) holders)))
+      (held_by (full_ones plan holders)))) buffer
 
 -- The lists of the holders end at the last event, each is held once for its put, and they are different.
 pub record CanBeginAll (plan : Plan) (events : List Event) (nfa : Nfa) (holders : List Holder) (held : Holds) (grown : List Grown) (buffer : BufferContent) : Type 0 where
@@ -152,5 +154,7 @@ pub record BeginningSome (plan : Plan) (events : List Event) (holders : List Hol
   pub parts : holders ≡ done ++ rest
   pub runs : AreRunsOf plan events (flat_map (waiters_of plan) done) (map fresh_run fresh)
   pub shown : AreTipsOf plan events (full_ones plan done) tips
-  pub has : HoldsLists plan events (both_hold (both_hold held (both_hold (held_by (map holder_of (flat_map (waiters_of plan) done))) (held_by (full_ones plan done)))) (held_by rest)) buffer
+  pub has :
+      HoldsLists plan events (both_hold (both_hold held
+      (both_hold (held_by (map holder_of (flat_map (waiters_of plan) done))) (held_by (full_ones plan done)))) (held_by rest)) buffer
   pub grown_are : AreGrownOf plan events rest grown

@@ -1,5 +1,5 @@
 -- What a pass makes of one run and of a group of runs. (This project's own.)
-use Rattle.std.specs.Prelude.{ℕ, ◌≡◌, Some, slice_get, Bool, true, not, List, [], ◌∷◌, ◌++◌, length, map, filter}
+use Rattle.std.specs.Prelude.{ℕ, ◌≡◌, ◌-◌, ◌<◌, ◌^◌, Some, slice_get, Bool, true, not, List, [], ◌∷◌, ◌++◌, length, map, filter}
 use Rattle.std.specs.List.{AllByRecursion as Each}
 use Rattle.cep_event.specs.declared.event.Event.{Event}
 use Rattle.cep_plan.specs.declared.plan.Plan.{Plan}
@@ -8,6 +8,8 @@ use Rattle.nfa_compile.specs.State.{IsCompilable}
 use Rattle.nfa_compile.specs.declared.nfa.Nfa.{Nfa}
 use Rattle.nfa_compile.specs.Automaton.{automaton_of, wait_for, waits_of}
 use Rattle.nfa_compile.specs.declared.nfa.Wait.{Wait}
+use Rattle.cond_sums.specs.Kept.{Summed}
+use Rattle.run_judge.specs.Fate.{AreSumsOf}
 use Rattle.run_step.specs.declared.runs.Run.{Run}
 use Rattle.run_step.specs.declared.passing.Take.{Take}
 use Rattle.run_step.specs.declared.passing.Passing.{Passing as PassingRow}
@@ -29,6 +31,7 @@ pub record CanPassGroup (plan : Plan) (events : List Event) (position stage : �
   pub fit : IsCompilable plan
   pub automaton : nfa ≡ automaton_of plan
   pub at : position ≡ length events
+  pub small : position < 2 ^ 32 - 1
   pub waiting : Each (λ w. waits plan events w.list w.stage ≡ true) waiters
   pub runs_are : AreRunsOf plan events waiters (map (staged stage) runs)
 
@@ -47,8 +50,7 @@ pub record CanNote (plan : Plan) (events : List Event) (event : Event) (position
   pub can : CanTakeRun plan events position waiter run nfa
   pub taken_is : taken ≡ is_taking plan events event waiter
 
-pub record CanNoteSome (event : Event) (position : ℕ) (run : Run) (nfa : Nfa) (taken : Bool) : Type 0 where
-  pub plan : Plan
+pub record CanNoteSome (plan : Plan) (event : Event) (position : ℕ) (run : Run) (nfa : Nfa) (taken : Bool) : Type 0 where
   pub events : List Event
   pub waiter : Waiter
   pub can : CanNote plan events event position waiter run nfa taken
@@ -83,6 +85,7 @@ pub record CanPassGroups (plan : Plan) (events : List Event) (position : ℕ) (w
   pub fit : IsCompilable plan
   pub automaton : nfa ≡ automaton_of plan
   pub at : position ≡ length events
+  pub small : position < 2 ^ 32 - 1
   pub waiting : Each (λ w. waits plan events w.list w.stage ≡ true) waiters
   pub runs_are : AreRunsOf plan events waiters runs
 
@@ -116,19 +119,19 @@ pub record PassingGroups (plan : Plan) (events : List Event) (event : Event) (wa
 abbrev pub first_waiter : ℕ → Waiter
 first_waiter stage = record { list = []; stage = stage; node = 0 }
 
--- the wait with the number is that of the start for the stage, and was taken so often
-pub record CanTakeFirst (plan : Plan) (events : List Event) (position : ℕ) (waits : List Wait) (number stage bump : ℕ) : Type 0 where
+-- the wait with the number is that of the start for the stage, and was taken so often; the sums are those of no event
+pub record CanTakeFirst (plan : Plan) (events : List Event) (position : ℕ) (waits : List Wait) (number stage bump : ℕ) (empty : Summed) : Type 0 where
   pub fit : IsCompilable plan
   pub at : position ≡ length events
   pub waits_are : waits ≡ waits_of plan []
   pub found : slice_get waits number ≡ Some (wait_for plan [] stage)
   pub bump_is : bump ≡ takes_so_far plan events [] stage
+  pub empty_is : AreSumsOf plan [] empty
 
-pub record CanTakeFirstSome (position : ℕ) (waits : List Wait) (number bump : ℕ) : Type 0 where
-  pub plan : Plan
+pub record CanTakeFirstSome (plan : Plan) (position : ℕ) (waits : List Wait) (number bump : ℕ) (empty : Summed) : Type 0 where
   pub events : List Event
   pub stage : ℕ
-  pub can : CanTakeFirst plan events position waits number stage bump
+  pub can : CanTakeFirst plan events position waits number stage bump empty
 
 -- the take of the start, where the event is taken
 pub record IsFirstNoted (plan : Plan) (events : List Event) (event : Event) (stage bump : ℕ) (old new : List Take) : Type 0 where
@@ -137,16 +140,17 @@ pub record IsFirstNoted (plan : Plan) (events : List Event) (event : Event) (sta
   pub added : new ≡ old ++ more
   pub bump_is : bump ≡ takes_so_far plan (events ++ event ∷ []) [] stage
 
--- the start waits for these, and each was taken so often
-pub record CanBeginFirst (plan : Plan) (events : List Event) (position : ℕ) (waits : List Wait) (bumps : List ℕ) : Type 0 where
+-- the start waits for these, and each was taken so often; the sums are those of no event
+pub record CanBeginFirst (plan : Plan) (events : List Event) (position : ℕ) (waits : List Wait) (bumps : List ℕ) (empty : Summed) : Type 0 where
   pub fit : IsCompilable plan
   pub at : position ≡ length events
   pub waits_are : waits ≡ waits_of plan []
   pub bumps_are : bumps ≡ bumps_of plan events
+  pub empty_is : AreSumsOf plan [] empty
 
-pub record CanBeginFirstSome (plan : Plan) (position : ℕ) (waits : List Wait) (bumps : List ℕ) : Type 0 where
+pub record CanBeginFirstSome (plan : Plan) (position : ℕ) (waits : List Wait) (bumps : List ℕ) (empty : Summed) : Type 0 where
   pub events : List Event
-  pub can : CanBeginFirst plan events position waits bumps
+  pub can : CanBeginFirst plan events position waits bumps empty
 
 -- the takes of the start are added
 pub record FirstsNoted (plan : Plan) (events : List Event) (event : Event) (bumps : List ℕ) (old new : List Take) : Type 0 where

@@ -16,6 +16,7 @@ use Rattle.shared_buffer.specs.Slots.{slot_at}
 use Rattle.shared_buffer.specs.Content.{Content as BufferContent}
 use Rattle.shared_buffer.specs.declared.node.Standing.{Standing}
 use Rattle.list_buffer.specs.Held.{Holder}
+use Rattle.run_judge.specs.Fate.{AreSumsOf}
 use Rattle.run_step.specs.declared.runs.Tip.{Tip}
 use Rattle.run_step.specs.Content.{Content, Staged}
 use Rattle.run_step.specs.declared.runs.Run.{Run}
@@ -37,7 +38,8 @@ pub record StandsForSome (content : Content) (buffer : BufferContent) : Type 0 w
   pub plan : Plan
   pub somehow : StandsSomehow plan content buffer
 
--- The event was taken in: the lists of the tips, put in order, are the matches that end at it and begin at one of the starts, each once, and they are held besides.
+-- The event was taken in: the lists of the tips, put in order, are the matches that end at it and begin at one of the starts, each once, and they are
+-- held besides.
 pub record HasStepped (plan : Plan) (events : List Event) (event : Event) (starts : ℕ → Bool) (tips : List Holder) (shown : List Tip) (content : Content) (buffer : BufferContent) : Type 0 where
   pub holders : List Holder
   pub matches :
@@ -47,19 +49,21 @@ pub record HasStepped (plan : Plan) (events : List Event) (event : Event) (start
   pub stands : Stands plan (events ++ event ∷ []) starts (holders ++ tips) content buffer
   pub none_ahead : stands.ahead ≡ []
 
--- What the event makes of the runs, before the buffer knows of it: the takes are those of the waiters that take it, of the empty list first; the ended runs are those of the waiters that don't go on, and the others stay in their order.
+-- What the event makes of the runs, before the buffer knows of it: the takes are those of the waiters that take it, of the empty list first; the
+-- ended runs are those of the waiters that don't go on, and the others stay in their order.
 pub record HasPassed (plan : Plan) (events : List Event) (event : Event) (waiters : List Waiter) (takes : List Take) (ended : List Run) (runs : List Staged) (bumps : List ℕ) : Type 0 where
   pub takes_are : AreTakesOf plan (events ++ event ∷ []) (length events) (filter (is_taking plan events event) (first_waiters plan ++ waiters)) takes
   pub ended_are : AreHeldRuns plan (events ++ event ∷ []) (map holder_of (filter (λ w. not (goes_on plan events event w)) waiters)) ended
   pub runs_are : AreRunsOf plan (events ++ event ∷ []) (filter (goes_on plan events event) waiters) runs
   pub bumps_are : bumps ≡ bumps_of plan (events ++ event ∷ [])
 
--- The runs are those of these waiters, which wait after the events, over the plan's automaton.
+-- The runs are those of these waiters, which wait after the events, over the plan's automaton, and the sums of no event are kept.
 pub record CanPass (plan : Plan) (events : List Event) (waiters : List Waiter) (nfa : Nfa) (content : Content) : Type 0 where
   pub fit : IsCompilable plan
   pub automaton : nfa ≡ automaton_of plan
   pub counted : content.position ≡ length events
   pub bumps : content.bumps ≡ bumps_of plan events
+  pub empty : AreSumsOf plan [] content.empty
   pub waiting : Each (λ w. waits plan events w.list w.stage ≡ true) waiters
   pub runs : AreRunsOf plan events waiters content.runs
 
@@ -72,6 +76,7 @@ pub record CanPassSome (plan : Plan) (nfa : Nfa) (content : Content) : Type 0 wh
 pub record PassedTo (plan : Plan) (events : List Event) (event : Event) (waiters : List Waiter) (old new : Content) (takes : List Take) (ended : List Run) : Type 0 where
   pub passed : HasPassed plan events event waiters takes ended new.runs new.bumps
   pub position_is : new.position ≡ old.position
+  pub empty_is : new.empty ≡ old.empty
 
 -- The runs and the buffer stand for some events and starts, no tip is held, and the next position is one of the starts.
 pub record CanStep (plan : Plan) (content : Content) (buffer : BufferContent) : Type 0 where

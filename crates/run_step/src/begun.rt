@@ -11,7 +11,6 @@ use crate::passing::Grown;
 use crate::runs::{Run, Tip, TipList, WaitKey};
 use cep_event::NoMemory;
 use nfa_compile::{Nfa, Wait};
-use run_judge::copied_list;
 use shared_buffer::Buffer;
 use std::alloc::Global;
 
@@ -37,7 +36,9 @@ pub fn begin_run(
     buffer: &mut Buffer,
 ) -> Result<Fresh, NoMemory>
     requires { CanBeginSome one.now stage (record { state = one.now.state; number = number }) buffer.old }
-    ensures begun { (plan : PlanRow) (events : List EventRow) (holder : Holder) (held : Holds) → CanBegin plan events holder held one.now stage (record { state = one.now.state; number = number }) buffer.old → IfOk result (λ fresh. HasBegun plan events holder held stage fresh buffer.new) }
+    ensures begun { (plan : PlanRow) (events : List EventRow) (holder : Holder) (held : Holds)
+        → CanBegin plan events holder held one.now stage (record { state = one.now.state; number = number }) buffer.old
+        → IfOk result (λ fresh. HasBegun plan events holder held stage fresh buffer.new) }
     ensures pins { OnOk result (KeepsPins buffer.old buffer.new) }
 {
     buffer.facts();
@@ -47,7 +48,7 @@ pub fn begin_run(
         number,
     };
     let version = one.version.copy()?;
-    let taken = copied_list(&one.taken)?;
+    let sums = one.sums.copy()?;
     let run = Run {
         wait,
         node: one.node,
@@ -56,7 +57,8 @@ pub fn begin_run(
         bump: 0,
         start: one.start,
         start_ts: one.start_ts,
-        taken,
+        last: one.last,
+        sums,
     };
     Ok(Fresh { stage, run })
 }
@@ -69,7 +71,9 @@ pub fn begin_waits(
     buffer: &mut Buffer,
 ) -> Result<(), NoMemory>
     requires { CanBeginWaitsSome one.now waits.now buffer.old }
-    ensures begun { (plan : PlanRow) (events : List EventRow) (holder : Holder) (held : Holds) → CanBeginWaits plan events holder held one.now waits.now buffer.old → IfOk result (λ done. HasBegunWaits plan events holder held waits.now fresh.old.items fresh.new.items buffer.new) }
+    ensures begun { (plan : PlanRow) (events : List EventRow) (holder : Holder) (held : Holds)
+        → CanBeginWaits plan events holder held one.now waits.now buffer.old
+        → IfOk result (λ done. HasBegunWaits plan events holder held waits.now fresh.old.items fresh.new.items buffer.new) }
     ensures pins { OnOk result (KeepsPins buffer.old buffer.new) }
 {
     let mut number = 0u16;
@@ -96,7 +100,8 @@ pub fn is_full(nfa: &Nfa, number: u16) -> bool
 /// Hands the list out where it is full, with the hold of its put. Else the hold goes.
 pub fn show(tips: &mut TipList, one: Grown, full: bool, buffer: &mut Buffer) -> Result<(), NoMemory>
     requires { CanShowSome one buffer.old }
-    ensures shown { (plan : PlanRow) (events : List EventRow) (holder : Holder) (held : Holds) → CanShow plan events holder held one buffer.old → IfOk result (λ done. HasShown plan events holder held full tips.old tips.new buffer.new) }
+    ensures shown { (plan : PlanRow) (events : List EventRow) (holder : Holder) (held : Holds) → CanShow plan events holder held one buffer.old
+        → IfOk result (λ done. HasShown plan events holder held full tips.old tips.new buffer.new) }
     ensures pins { OnOk result (KeepsPins buffer.old buffer.new) }
 {
     buffer.facts();
@@ -119,7 +124,9 @@ pub fn begin_runs(
     alloc: Global,
 ) -> Result<Begun, NoMemory>
     requires { CanBeginAllSome nfa.now grown.items buffer.old }
-    ensures begun { (plan : PlanRow) (events : List EventRow) (holders : List Holder) (held : Holds) → CanBeginAll plan events nfa.now holders held grown.items buffer.old → IfOk result (λ begun. HasBegunAll plan events holders held begun.fresh.items begun.tips buffer.new) }
+    ensures begun { (plan : PlanRow) (events : List EventRow) (holders : List Holder) (held : Holds)
+        → CanBeginAll plan events nfa.now holders held grown.items buffer.old
+        → IfOk result (λ begun. HasBegunAll plan events holders held begun.fresh.items begun.tips buffer.new) }
     ensures pins { OnOk result (KeepsPins buffer.old buffer.new) }
 {
     let mut fresh = Vec::new(alloc);

@@ -62,7 +62,8 @@ pub fn pass_front(
     ensures within { IfOk result (λ kept. (kept ≤ length runs.new.items) × (length runs.new.items ≡ length runs.old.items)) }
     ensures rest { IfOk result (λ kept. drop kept runs.new.items ≡ drop kept runs.old.items) }
     ensures order { IsOrdered runs.old.items → IsOrdered runs.new.items }
-    ensures front { (events : List EventRow) (waiters : List Waiter) → CanPassGroup plan.now events position stage waiters nfa.now runs.old.items → IfOk result (λ kept. GroupPassed plan.now events event.now stage (take kept waiters) (take kept runs.new.items) passing.old passing.new) }
+    ensures front { (events : List EventRow) (waiters : List Waiter) → CanPassGroup plan.now events position stage waiters nfa.now runs.old.items
+        → IfOk result (λ kept. GroupPassed plan.now events event.now stage (take kept waiters) (take kept runs.new.items) passing.old passing.new) }
 {
     let number = runs.len();
     for place in 0..number {
@@ -71,7 +72,7 @@ pub fn pass_front(
         if !fate.lives {
             return Ok(place);
         }
-        note_take(run, fate.taken, nfa, event, position, passing)?;
+        note_take(run, fate.taken, nfa, plan, event, position, passing)?;
     }
     Ok(number)
 }
@@ -108,12 +109,15 @@ pub fn pass_tail(
 ) -> Result<(), NoMemory>
     requires { CanPassGroupSome plan.now position stage nfa.now tail.items }
     ensures order { IsOrdered (runs.old.items ++ tail.items) → IsOrdered runs.new.items }
-    ensures passed { (events : List EventRow) (waiters : List Waiter) (front : List Waiter) → CanPassGroup plan.now events position stage waiters nfa.now tail.items → AreRunsOf plan.now (events ++ event.now ∷ []) front (map (staged stage) runs.old.items) → IfOk result (λ done. TailPassed plan.now events event.now stage front waiters runs.new.items passing.old passing.new) }
+    ensures passed { (events : List EventRow) (waiters : List Waiter) (front : List Waiter)
+        → CanPassGroup plan.now events position stage waiters nfa.now tail.items
+        → AreRunsOf plan.now (events ++ event.now ∷ []) front (map (staged stage) runs.old.items)
+        → IfOk result (λ done. TailPassed plan.now events event.now stage front waiters runs.new.items passing.old passing.new) }
 {
     for run in tail {
         let mut run = run;
         let fate = judged(plan, &run, stage, event, position);
-        note_take(&mut run, fate.taken, nfa, event, position, passing)?;
+        note_take(&mut run, fate.taken, nfa, plan, event, position, passing)?;
         keep_or_end(runs, run, fate.lives, &mut passing.ended)?;
     }
     Ok(())
@@ -146,7 +150,9 @@ impl Group {
     ) -> Result<(), NoMemory>
         requires { CanPassGroupSome plan.now position self.old.stage nfa.now self.old.runs }
         ensures stage { IfOk result (λ done. self.new.stage ≡ self.old.stage) }
-        ensures passed { (events : List EventRow) (waiters : List Waiter) → CanPassGroup plan.now events position self.old.stage waiters nfa.now self.old.runs → IfOk result (λ done. GroupPassed plan.now events event.now self.old.stage waiters self.new.runs passing.old passing.new) }
+        ensures passed { (events : List EventRow) (waiters : List Waiter)
+            → CanPassGroup plan.now events position self.old.stage waiters nfa.now self.old.runs
+            → IfOk result (λ done. GroupPassed plan.now events event.now self.old.stage waiters self.new.runs passing.old passing.new) }
     {
         if self.runs.is_empty() {
             return Ok(());
@@ -205,7 +211,9 @@ impl Group {
     pub fn kill(&mut self, buffer: &mut Buffer, from: u32, to: u32)
         requires { CanEndAllSome (filter (λ run. is_from from to run.start) self.old.runs) buffer.old }
         ensures runs { self.new ≡ record self.old { runs = filter (λ run. not (is_from from to run.start)) self.old.runs } }
-        ensures held { (plan : PlanRow) (events : List EventRow) (holders : List Holder) (held : Holds) → CanEndAll plan events holders held (filter (λ run. is_from from to run.start) self.old.runs) buffer.old → HoldsLists plan events held buffer.new }
+        ensures held { (plan : PlanRow) (events : List EventRow) (holders : List Holder) (held : Holds)
+            → CanEndAll plan events holders held (filter (λ run. is_from from to run.start) self.old.runs) buffer.old
+            → HoldsLists plan events held buffer.new }
         ensures pins { KeepsPins buffer.old buffer.new }
     {
         if from < to {
@@ -293,7 +301,8 @@ pub fn place_behind(runs: &RunQueue, start: u32) -> usize
 pub fn end_between(runs: &RunQueue, buffer: &mut Buffer, first: usize, end: usize)
     requires bound { end ≤ length runs.now.items }
     requires can { CanEndAllSome (take (end - first) (drop first runs.now.items)) buffer.old }
-    ensures held { (plan : PlanRow) (events : List EventRow) (holders : List Holder) (held : Holds) → CanEndAll plan events holders held (take (end - first) (drop first runs.now.items)) buffer.old → HoldsLists plan events held buffer.new }
+    ensures held { (plan : PlanRow) (events : List EventRow) (holders : List Holder) (held : Holds)
+        → CanEndAll plan events holders held (take (end - first) (drop first runs.now.items)) buffer.old → HoldsLists plan events held buffer.new }
     ensures pins { KeepsPins buffer.old buffer.new }
 {
     for place in first..end {

@@ -1,8 +1,11 @@
 //! What an event makes of one run.
-ghost use Rattle.std.specs.Prelude.{◌≡◌, ◌<◌, ◌^◌, length, ℕ, List, [], ◌∷◌, ◌++◌, IfOk};
-ghost use Rattle.cep_plan.specs.declared.plan.Plan.{Plan as PlanRow};
+ghost use Rattle.std.specs.Prelude.{◌≡◌, ℕ, List, [], ◌∷◌, ◌++◌, Some, IfOk};
 ghost use Rattle.cep_event.specs.declared.event.Event.{Event as EventRow};
+ghost use Rattle.cep_plan.specs.declared.item.Taken.{Taken as TakenRow};
 ghost use Rattle.live_laws.specs.Survival.{survives, takes};
+ghost use Rattle.cond_sums.specs.Questions.{IsWantedBy};
+ghost use Rattle.cond_sums.specs.Kept.{wanted_in};
+ghost use Rattle.run_judge.specs.Fate.{IsKeptOf};
 ghost use Rattle.run_step.specs.Runs.{Waiter};
 ghost use Rattle.run_step.specs.Taking.{IsTakeOf, CanTakeRun, CanTakeSome};
 ghost use Rattle.run_step.specs.Passing.{is_taking};
@@ -12,17 +15,25 @@ use crate::digits::{digit_after, label_after, waits_at};
 use crate::passing::{Passing, Take};
 use crate::runs::Run;
 use cep_event::{Event, NoMemory};
-use cep_plan::{Plan, TakenList};
+use cep_plan::Plan;
+use cond_sums::Sums;
 use dewey_version::Version;
 use nfa_compile::{Nfa, Wait};
-use run_judge::{Fate, extended, judged_list};
+use run_judge::{Fate, Last, judged_list};
 use shared_buffer::NodeKey;
 use std::alloc::Global;
 
 /// The take of the run.
-pub fn take_of(run: &Run, nfa: &Nfa, event: &Event, position: u32) -> Result<Take, NoMemory>
-    requires { CanTakeSome position run.now nfa.now }
-    ensures { (plan : PlanRow) (events : List EventRow) (waiter : Waiter) → CanTakeRun plan events position waiter run.now nfa.now → IfOk result (λ made. IsTakeOf plan (events ++ event.now ∷ []) position waiter made) }
+pub fn take_of(
+    run: &Run,
+    nfa: &Nfa,
+    plan: &Plan,
+    event: &Event,
+    position: u32,
+) -> Result<Take, NoMemory>
+    requires { CanTakeSome plan.now position run.now nfa.now }
+    ensures { (events : List EventRow) (waiter : Waiter) → CanTakeRun plan.now events position waiter run.now nfa.now
+        → IfOk result (λ made. IsTakeOf plan.now (events ++ event.now ∷ []) position waiter made) }
 {
     let waits = waits_at(nfa, run.wait.state);
     let number = run.wait.number as usize;
@@ -35,7 +46,11 @@ pub fn take_of(run: &Run, nfa: &Nfa, event: &Event, position: u32) -> Result<Tak
         next_digit: digit_after(waits, wait, run.next_digit),
         start: run.start,
         start_ts: run.start_ts,
-        taken: extended(&run.taken, wait.stage, event, position)?,
+        last: Last {
+            stage: wait.stage,
+            position,
+        },
+        sums: run.sums.after(plan, wait.stage, event)?,
     })
 }
 
@@ -44,12 +59,15 @@ pub fn first_take(
     waits: &[Wait],
     number: usize,
     bump: u64,
+    plan: &Plan,
+    empty: &Sums,
     event: &Event,
     position: u32,
     alloc: Global,
 ) -> Result<Take, NoMemory>
-    requires { CanTakeFirstSome position waits.now number bump }
-    ensures { (plan : PlanRow) (events : List EventRow) (stage : ℕ) → CanTakeFirst plan events position waits.now number stage bump → IfOk result (λ made. IsTakeOf plan (events ++ event.now ∷ []) position (first_waiter stage) made) }
+    requires { CanTakeFirstSome plan.now position waits.now number bump empty.now }
+    ensures { (events : List EventRow) (stage : ℕ) → CanTakeFirst plan.now events position waits.now number stage bump empty.now
+        → IfOk result (λ made. IsTakeOf plan.now (events ++ event.now ∷ []) position (first_waiter stage) made) }
 {
     let wait = &waits[number];
     let version = Version::empty(alloc);
@@ -61,7 +79,11 @@ pub fn first_take(
         next_digit: digit_after(waits, wait, 0),
         start: position,
         start_ts: event.ts,
-        taken: extended(&TakenList::new(alloc), wait.stage, event, position)?,
+        last: Last {
+            stage: wait.stage,
+            position,
+        },
+        sums: empty.after(plan, wait.stage, event)?,
     })
 }
 
@@ -71,29 +93,43 @@ pub fn note_first(
     taken: bool,
     waits: &[Wait],
     number: usize,
+    plan: &Plan,
+    empty: &Sums,
     event: &Event,
     position: u32,
     takes: &mut Vec<Take>,
     alloc: Global,
 ) -> Result<u64, NoMemory>
-    requires { CanTakeFirstSome position waits.now number bump }
-    ensures { (plan : PlanRow) (events : List EventRow) (stage : ℕ) → CanTakeFirst plan events position waits.now number stage bump → taken ≡ is_taking plan events event.now (first_waiter stage) → IfOk result (λ after. IsFirstNoted plan events event.now stage after takes.old.items takes.new.items) }
+    requires { CanTakeFirstSome plan.now position waits.now number bump empty.now }
+    ensures { (events : List EventRow) (stage : ℕ) → CanTakeFirst plan.now events position waits.now number stage bump empty.now
+        → taken ≡ is_taking plan.now events event.now (first_waiter stage)
+        → IfOk result (λ after. IsFirstNoted plan.now events event.now stage after takes.old.items takes.new.items) }
 {
     if !taken {
         return Ok(bump);
     }
-    let noted = first_take(waits, number, bump, event, position, alloc)?;
+    let noted = first_take(waits, number, bump, plan, empty, event, position, alloc)?;
     takes.push(noted)?;
     Ok(bump + 1)
 }
 
 /// What the event does to the run.
 pub fn judged(plan: &Plan, run: &Run, stage: u16, event: &Event, position: u32) -> Fate
-    requires { length run.now.taken < 2 ^ 32 }
-    ensures taken { result.taken ≡ takes plan.now run.now.taken stage event.now position }
-    ensures lives { result.lives ≡ survives plan.now run.now.taken stage event.now position }
+    requires { IsWantedBy plan.now (wanted_in run.now.sums) }
+    ensures taken { (list : List TakenRow) → IsKeptOf plan.now event.now list run.now.sums (Some run.now.last) run.now.start_ts
+        → result.taken ≡ takes plan.now list stage event.now position }
+    ensures lives { (list : List TakenRow) → IsKeptOf plan.now event.now list run.now.sums (Some run.now.last) run.now.start_ts
+        → result.lives ≡ survives plan.now list stage event.now position }
 {
-    judged_list(plan, &run.taken, stage, event, position)
+    judged_list(
+        plan,
+        &run.sums,
+        Some(run.last),
+        run.start_ts,
+        stage,
+        event,
+        position,
+    )
 }
 
 /// Notes the take of the run, where the event may be taken.
@@ -101,19 +137,21 @@ pub fn note_take(
     run: &mut Run,
     taken: bool,
     nfa: &Nfa,
+    plan: &Plan,
     event: &Event,
     position: u32,
     passing: &mut Passing,
 ) -> Result<(), NoMemory>
-    requires { CanNoteSome event.now position run.old nfa.now taken }
-    ensures noted { (plan : PlanRow) (events : List EventRow) (waiter : Waiter) → CanNote plan events event.now position waiter run.old nfa.now taken → IfOk result (λ done. IsNoted plan events event.now waiter run.new passing.old.takes.items passing.new.takes.items) }
+    requires { CanNoteSome plan.now event.now position run.old nfa.now taken }
+    ensures noted { (events : List EventRow) (waiter : Waiter) → CanNote plan.now events event.now position waiter run.old nfa.now taken
+        → IfOk result (λ done. IsNoted plan.now events event.now waiter run.new passing.old.takes.items passing.new.takes.items) }
     ensures ended { passing.new.ended ≡ passing.old.ended }
     ensures start { run.new.start ≡ run.old.start }
 {
     if !taken {
         return Ok(());
     }
-    let noted = take_of(run, nfa, event, position)?;
+    let noted = take_of(run, nfa, plan, event, position)?;
     passing.takes.push(noted)?;
     run.bump += 1;
     Ok(())

@@ -18,7 +18,9 @@ use std::alloc::Global;
 /// Gives the list its edge, with one hold.
 pub fn put_take(take: Take, buffer: &mut Buffer, event: EventKey) -> Result<Grown, NoMemory>
     requires { CanPutSome event take buffer.old }
-    ensures put { (plan : PlanRow) (events : List EventRow) (position : ℕ) (waiter : Waiter) (waiters : List Waiter) (held : Holds) → CanPutAll plan events position event (waiter ∷ waiters) held buffer.old → IsTakeOf plan events position waiter take → IfOk result (λ grown. HasPut plan events position event waiter waiters held grown buffer.new) }
+    ensures put { (plan : PlanRow) (events : List EventRow) (position : ℕ) (waiter : Waiter) (waiters : List Waiter) (held : Holds)
+        → CanPutAll plan events position event (waiter ∷ waiters) held buffer.old → IsTakeOf plan events position waiter take
+        → IfOk result (λ grown. HasPut plan events position event waiter waiters held grown buffer.new) }
     ensures pins { OnOk result (KeepsPins buffer.old buffer.new) }
 {
     buffer.facts();
@@ -30,7 +32,8 @@ pub fn put_take(take: Take, buffer: &mut Buffer, event: EventKey) -> Result<Grow
         next_digit: take.next_digit,
         start: take.start,
         start_ts: take.start_ts,
-        taken: take.taken,
+        last: take.last,
+        sums: take.sums,
     })
 }
 
@@ -42,7 +45,9 @@ pub fn put_takes(
     alloc: Global,
 ) -> Result<Vec<Grown>, NoMemory>
     requires { CanPutAllSome event takes.items buffer.old }
-    ensures put { (plan : PlanRow) (events : List EventRow) (position : ℕ) (waiters : List Waiter) (held : Holds) → CanPutAll plan events position event waiters held buffer.old → AreTakesOf plan events position waiters takes.items → IfOk result (λ grown. HasPutAll plan events position waiters held grown.items buffer.new) }
+    ensures put { (plan : PlanRow) (events : List EventRow) (position : ℕ) (waiters : List Waiter) (held : Holds)
+        → CanPutAll plan events position event waiters held buffer.old → AreTakesOf plan events position waiters takes.items
+        → IfOk result (λ grown. HasPutAll plan events position waiters held grown.items buffer.new) }
     ensures pins { OnOk result (KeepsPins buffer.old buffer.new) }
 {
     let mut grown = Vec::with_capacity(alloc, takes.len())?;
@@ -55,20 +60,32 @@ pub fn put_takes(
 /// Takes the hold of a run that ends.
 pub fn end_run(run: &Run, buffer: &mut Buffer)
     requires { CanEndSome run.now buffer.old }
-    ensures held { (plan : PlanRow) (events : List EventRow) (holder : Holder) (held : Holds) → CanEnd plan events holder held run.now buffer.old → HoldsLists plan events (without_hold holder held) buffer.new }
+    ensures held { (plan : PlanRow) (events : List EventRow) (holder : Holder) (held : Holds) → CanEnd plan events holder held run.now buffer.old
+        → HoldsLists plan events (without_hold holder held) buffer.new }
     ensures pins { KeepsPins buffer.old buffer.new }
 {
     buffer.facts();
     buffer.release(run.node, &run.version);
 }
 
+/// Takes the hold of a run that ends, and lets the run go.
+pub fn finish(run: Run, buffer: &mut Buffer)
+    requires { CanEndSome run buffer.old }
+    ensures held { (plan : PlanRow) (events : List EventRow) (holder : Holder) (held : Holds) → CanEnd plan events holder held run buffer.old
+        → HoldsLists plan events (without_hold holder held) buffer.new }
+    ensures pins { KeepsPins buffer.old buffer.new }
+{
+    end_run(&run, buffer);
+}
+
 /// Takes the holds of the runs, which end.
 pub fn end_runs(ended: Vec<Run>, buffer: &mut Buffer)
     requires { CanEndAllSome ended.items buffer.old }
-    ensures held { (plan : PlanRow) (events : List EventRow) (holders : List Holder) (held : Holds) → CanEndAll plan events holders held ended.items buffer.old → HoldsLists plan events held buffer.new }
+    ensures held { (plan : PlanRow) (events : List EventRow) (holders : List Holder) (held : Holds)
+        → CanEndAll plan events holders held ended.items buffer.old → HoldsLists plan events held buffer.new }
     ensures pins { KeepsPins buffer.old buffer.new }
 {
     for run in ended {
-        end_run(&run, buffer);
+        finish(run, buffer);
     }
 }

@@ -1,8 +1,9 @@
 -- What a contract says of the edges of one node, which labels tell apart (after the Dewey numbers of Agrawal, Diao,
 -- Gyllstrom and Immerman).
-use Rattle.std.specs.Prelude.{◌≡◌, ℕ, ◌+◌, ◌-◌, ◌^◌, ◌<◌, Bool, not, ◌&&◌, List, Option, Some, IsSome, find}
-use Rattle.dewey_version.specs.Version.{begins}
-use Rattle.shared_buffer.specs.Lists.{change_first, remove_first}
+use Rattle.std.specs.Prelude.{◌≡◌, ℕ, ◌+◌, ◌-◌, ◌^◌, ◌<◌, ◌==◌, nat_lt, Bool, true, false, not, ◌&&◌, List, [], ◌∷◌, Option, Some, IsSome, find, if◌then◌else◌}
+use Rattle.std.specs.Ordering.{is_gt}
+use Rattle.dewey_version.specs.Version.{begins, version_cmp}
+use Rattle.shared_buffer.specs.Lists.{change_first, remove_first, put_before}
 use Rattle.shared_buffer.specs.declared.edges.Edge.{Edge}
 
 -- the edge's label is a prefix of the version
@@ -26,6 +27,30 @@ pub record HasRoom (edges : List Edge) (version : List ℕ) : Type 0 where
 -- the edge's label is no prefix of this one, and this one is no prefix of it
 abbrev pub is_apart_from : List ℕ → Edge → Bool
 is_apart_from label edge = not (begins label edge.label) && not (begins edge.label label)
+
+-- the edge's label comes behind this one in the order of versions
+abbrev pub is_above : List ℕ → Edge → Bool
+is_above label edge = is_gt (version_cmp edge.label label)
+
+-- where the two labels first differ both have a digit, and that of the first label is lower
+abbrev pub is_before : List ℕ → List ℕ → Bool
+is_before [] other = false
+is_before (digit ∷ label) [] = false
+is_before (digit ∷ label) (first ∷ other) = if digit == first then is_before label other else nat_lt digit first
+
+-- the label is before each of these edges' labels
+abbrev pub AreBehind : List ℕ → List Edge → Type 0
+AreBehind label [] = Unit {0}
+AreBehind label (edge ∷ edges) = (is_before label edge.label ≡ true) × AreBehind label edges
+
+-- each label is before those that follow it, so none begins with another
+abbrev pub IsInOrder : List Edge → Type 0
+IsInOrder [] = Unit {0}
+IsInOrder (edge ∷ edges) = AreBehind edge.label edges × IsInOrder edges
+
+-- the edges with one more, at its place in the order of labels
+abbrev pub with_edge : Edge → List Edge → List Edge
+with_edge edge edges = put_before (is_above edge.label) edge edges
 
 -- the same edge, counted one higher
 abbrev pub edge_up : Edge → Edge

@@ -1,10 +1,10 @@
 -- What a contract says of nodes by their keys (this project's own).
-use Rattle.std.specs.Prelude.{◌≡◌, ℕ, ◌+◌, ◌^◌, ◌<◌, ◌==◌, true, List, [], ◌∷◌, ◌++◌, length, Option, Some, None, IsSome, option_and_then, if◌then◌else◌}
+use Rattle.std.specs.Prelude.{◌≡◌, ℕ, ◌+◌, ◌^◌, ◌<◌, ◌==◌, true, List, length, Option, Some, None, IsSome, option_and_then, if◌then◌else◌}
 use Rattle.dewey_version.specs.Version.{begins}
 use Rattle.shared_buffer.specs.Graph.{successors}
 use Rattle.shared_buffer.specs.Lists.{Lists}
 use Rattle.shared_buffer.specs.Slots.{slot_at, with_slot_changed}
-use Rattle.shared_buffer.specs.Edges.{find_edge, HasEdge, counted_up, counted_down, without_edge}
+use Rattle.shared_buffer.specs.Edges.{find_edge, HasEdge, with_edge, counted_up, counted_down, without_edge}
 use Rattle.shared_buffer.specs.declared.edges.Edge.{Edge}
 use Rattle.shared_buffer.specs.declared.node.Node.{Node}
 
@@ -35,7 +35,7 @@ node_without version node = record node { edges = without_edge node.edges versio
 
 -- the node with one edge more
 abbrev pub node_with : Edge → Node → Node
-node_with edge node = record node { edges = node.edges ++ edge ∷ [] }
+node_with edge node = record node { edges = with_edge edge node.edges }
 
 -- the node without the edge that leads on with the version, or nothing where it was the only one
 abbrev pub slot_without : List ℕ → Node → Option Node

@@ -1,8 +1,8 @@
 -- What `put` asks and leaves (after the edges with Dewey numbers of Agrawal, Diao, Gyllstrom and Immerman; that labels on
 -- a node are prefix-free is this project's own).
-use Rattle.std.specs.Prelude.{◌≡◌, ℕ, ◌+◌, ◌^◌, ◌<◌, List, [], ◌∷◌, ◌++◌, Option, Some, None, IsSome}
+use Rattle.std.specs.Prelude.{◌≡◌, ℕ, ◌+◌, ◌^◌, ◌<◌, List, [], ◌∷◌, Option, Some, None, IsSome}
 use Rattle.shared_buffer.specs.Slots.{slot_at, Changes}
-use Rattle.shared_buffer.specs.Edges.{find_edge}
+use Rattle.shared_buffer.specs.Edges.{find_edge, with_edge}
 use Rattle.shared_buffer.specs.Nodes.{with_pred_counted}
 use Rattle.shared_buffer.specs.Graph.{IsApartFrom}
 use Rattle.shared_buffer.specs.Content.{Content}
@@ -58,7 +58,7 @@ pub record IsPlaced (nodes : List (Option Node)) (key stage state event position
 
 -- the node of the key with one edge more, or a node of that edge
 abbrev pub node_put : Option Node → (stage state event position : ℕ) → Edge → Node
-node_put (Some node) stage state event position edge = record node { edges = node.edges ++ edge ∷ [] }
+node_put (Some node) stage state event position edge = record node { edges = with_edge edge node.edges }
 node_put None stage state event position edge =
     record { stage = stage; state = state; event = event; position = position; edges = edge ∷ [] }
 

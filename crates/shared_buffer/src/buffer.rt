@@ -153,7 +153,7 @@ impl Buffer {
         let entry = &self.entries[event.slot()];
         match entry.members.find(state) {
             Some(node) => {
-                nodes::push_edge(&mut self.nodes, node, edge)?;
+                nodes::insert_edge(&mut self.nodes, node, edge)?;
                 nodes::count_pred(&mut self.nodes, pred, label);
                 self.edge_count += 1;
                 self.facts();

@@ -1,14 +1,15 @@
 //! The edges of one node.
-ghost use Rattle.std.specs.Prelude.{◌≡◌, ◌<◌, ◌+◌, [], ◌∷◌, ◌++◌, ◌^◌, ◌==◌, ◌↔◌, length, Some, IfOk, OnOk, OnErr, IsTrue, count_by};
+ghost use Rattle.std.specs.Prelude.{◌≡◌, ◌<◌, ◌≤◌, ◌+◌, [], ◌∷◌, ◌^◌, ◌==◌, ◌↔◌, length, Some, IfOk, OnOk, OnErr, IsTrue, count_by};
 ghost use Rattle.std.specs.Option.{ForSome, option_copied};
 ghost use Rattle.std.specs.List.{position_or_len, list_all};
-ghost use Rattle.shared_buffer.specs.Edges.{HasEdge, HasRoom, leads, find_edge, is_apart_from, counted_up, counted_down, without_edge};
+ghost use Rattle.shared_buffer.specs.Edges.{HasEdge, HasRoom, IsInOrder, leads, is_above, find_edge, is_apart_from, with_edge, counted_up, counted_down, without_edge};
 ghost use Rattle.shared_buffer.specs.Graph.{is_successor, IsApartFrom};
 
 use crate::keys::NodeKey;
 use cep_event::NoMemory;
 use dewey_version::Version;
 use std::alloc::Global;
+use std::collections::VecDeque;
 use std::marker::Model;
 
 /// One edge of a node: the way on from it, under a label, to the node before it.
@@ -22,43 +23,62 @@ pub struct Edge {
     pub count: u64,
 }
 
-/// The edges of a node, in the order in which they were put.
+/// The edges of a node, in the order of their labels. No label begins with another, so of all edges only the last
+/// one whose label isn't above a version can have a prefix of it: a binary search finds it.
 #[derive(Drop)]
 pub struct Edges {
-    list: Vec<Edge>,
+    // A queue gives edges back at either end, where most of them go.
+    list: VecDeque<Edge>,
 }
 
 impl Model for Edges {
     ghost use Rattle.std.specs.Prelude.{List};
     ghost use Rattle.shared_buffer.specs.declared.edges.Edge.{Edge as One};
+    ghost use Rattle.shared_buffer.specs.Edges.{IsInOrder};
 
     ghost Value = { List One };
 
     ghost view = { λ e. e.list.items };
+
+    ghost invariant = { λ e. IsInOrder e.list.items };
 }
 
-// The place of the first edge whose label is a prefix of the version.
-fn place(edges: &[Edge], version: &Version) -> usize
-    requires { HasEdge edges.now version.now }
-    ensures place { result ≡ position_or_len (leads version.now) edges.now }
-    ensures within { result < length edges.now }
+// The place of the first edge whose label is above the version, or how many edges there are.
+fn first_above(edges: &VecDeque<Edge>, version: &Version) -> usize
+    requires { IsInOrder edges.now.items }
+    ensures { result ≡ position_or_len (is_above version.now) edges.now.items }
 {
-    for (i, edge) in edges.iter().enumerate() {
-        if edge.label.begins(version) {
-            return i;
-        }
+    edges.partition_point(|edge| !edge.label.compare(version).is_gt())
+}
+
+// The place of the edge whose label is a prefix of the version.
+fn place(edges: &VecDeque<Edge>, version: &Version) -> usize
+    requires order { IsInOrder edges.now.items }
+    requires leads { HasEdge edges.now.items version.now }
+    ensures place { result ≡ position_or_len (leads version.now) edges.now.items }
+    ensures within { result < length edges.now.items }
+{
+    first_above(edges, version) - 1
+}
+
+fn find_in<'a>(edges: &'a VecDeque<Edge>, version: &Version) -> Option<&'a Edge>
+    requires { IsInOrder edges.now.items }
+    ensures { option_copied result ≡ find_edge edges.now.items version.now }
+{
+    let above = first_above(edges, version);
+    if above == 0 {
+        return None;
     }
-    unreachable!()
+    let edge = &edges[above - 1];
+    if edge.label.begins(version) {
+        Some(edge)
+    } else {
+        None
+    }
 }
 
-fn find_in<'a>(edges: &'a [Edge], version: &Version) -> Option<&'a Edge>
-    ensures { option_copied result ≡ find_edge edges.now version.now }
-{
-    edges.iter().find(|edge| edge.label.begins(version))
-}
-
-fn are_apart(edges: &[Edge], label: &Version) -> bool
-    ensures { result ≡ list_all (is_apart_from label.now) edges.now }
+fn are_apart(edges: &VecDeque<Edge>, label: &Version) -> bool
+    ensures { result ≡ list_all (is_apart_from label.now) edges.now.items }
 {
     edges.iter().all(|edge| !label.begins(&edge.label) && !edge.label.begins(label))
 }
@@ -75,7 +95,8 @@ fn is_successor(edge: &Edge, node: NodeKey, label: &Version) -> bool
 
 // How many of the edges lead to the node, with a label that goes on from this one.
 fn count_successors(edges: &[Edge], node: NodeKey, label: &Version) -> usize
-    ensures { result ≡ count_by (is_successor node label.now) edges.now }
+    ensures counted { result ≡ count_by (is_successor node label.now) edges.now }
+    ensures within { result ≤ length edges.now }
 {
     let mut count = 0usize;
     for edge in edges {
@@ -91,8 +112,8 @@ impl Edges {
     pub fn single(alloc: Global, edge: Edge) -> Result<Edges, NoMemory>
         ensures { IfOk result (λ edges. edges ≡ edge ∷ []) }
     {
-        let mut list = Vec::with_capacity(alloc, 1)?;
-        list.push(edge)?;
+        let mut list = VecDeque::with_capacity(alloc, 1)?;
+        list.push_back(edge)?;
         Ok(Edges { list })
     }
 
@@ -110,12 +131,14 @@ impl Edges {
         self.list.is_empty()
     }
 
-    /// Adds an edge behind the others.
-    pub fn push(&mut self, edge: Edge) -> Result<(), NoMemory>
-        ensures ok { OnOk result (self.new ≡ self.old ++ edge ∷ []) }
+    /// Adds an edge at its place in the order of labels.
+    pub fn insert(&mut self, edge: Edge) -> Result<(), NoMemory>
+        requires { IsApartFrom edge.label self.old }
+        ensures ok { OnOk result (self.new ≡ with_edge edge self.old) }
         ensures err { OnErr result (self.new ≡ self.old) }
     {
-        self.list.push(edge)?;
+        let place = first_above(&self.list, &edge.label);
+        self.list.insert(place, edge)?;
         Ok(())
     }
 
@@ -155,7 +178,10 @@ impl Edges {
         ensures rest { self.new ≡ without_edge self.old version.now }
     {
         let place = place(&self.list, version);
-        self.list.remove(place)
+        match self.list.remove(place) {
+            Some(edge) => edge,
+            None => unreachable!(),
+        }
     }
 
     /// The edge whose label is a prefix of the version, where there is one.
@@ -186,6 +212,7 @@ impl Edges {
     pub fn successors(&self, node: NodeKey, label: &Version) -> usize
         ensures { result ≡ count_by (is_successor node label.now) self.now }
     {
-        count_successors(&self.list, node, label)
+        let (front, back) = self.list.as_slices();
+        count_successors(front, node, label) + count_successors(back, node, label)
     }
 }

@@ -1,7 +1,8 @@
 //! Changes of one node among all.
-ghost use Rattle.std.specs.Prelude.{◌≡◌, ◌+◌, ◌^◌, ◌<◌, ◌++◌, [], ◌∷◌, Some, None, IfOk, OnOk, OnErr, IsSome, option_and_then, option_map};
+ghost use Rattle.std.specs.Prelude.{◌≡◌, ◌+◌, ◌^◌, ◌<◌, Some, None, IfOk, OnOk, OnErr, IsSome, option_and_then, option_map};
 ghost use Rattle.std.specs.Option.{ForSome};
 ghost use Rattle.slab.specs.Slab.{HasRoomFor};
+ghost use Rattle.shared_buffer.specs.Graph.{IsApartFrom};
 ghost use Rattle.shared_buffer.specs.Slots.{slot_at, with_slot_changed, Changes};
 ghost use Rattle.shared_buffer.specs.Nodes.{edge_at, node_up, node_down, node_with, slot_without, with_pred_counted, HasEdgeAt};
 
@@ -33,13 +34,14 @@ pub fn count_down(nodes: &mut Slab<Node>, node: NodeKey, version: &Version)
 }
 
 /// Adds an edge to the node.
-pub fn push_edge(nodes: &mut Slab<Node>, node: NodeKey, edge: Edge) -> Result<(), NoMemory>
-    requires { IsSome (slot_at nodes.old.slots node) }
+pub fn insert_edge(nodes: &mut Slab<Node>, node: NodeKey, edge: Edge) -> Result<(), NoMemory>
+    requires stands { IsSome (slot_at nodes.old.slots node) }
+    requires apart { ForSome (slot_at nodes.old.slots node) (λ row. IsApartFrom edge.label row.edges) }
     ensures ok { OnOk result (nodes.new.slots ≡ with_slot_changed (node_with edge) nodes.old.slots node) }
     ensures err { OnErr result (nodes.new.slots ≡ nodes.old.slots) }
 {
     let row = &mut nodes[node.slot()];
-    row.edges.push(edge)
+    row.edges.insert(edge)
 }
 
 /// Removes the node's edge that leads on with the version, and says where it led. Where it was the only

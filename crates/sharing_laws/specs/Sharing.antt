@@ -30,7 +30,8 @@ use Rattle.sharing_laws.specs.Versions.{digits_within}
 -- There is exactly one run for each living list and each stage that it waits for, and no other run.
 pub record HasRuns (plan : Plan) (ticks : List Tick) (runs : List Staged) (buffer : BufferContent) : Type 0 where
   pub waiters : List Waiter
-  -- one by one each run has the version of its list, the first digit that the list hasn't given away, how often its wait was taken, and where the list begins
+  -- one by one each run has the version of its list, the first digit that the list hasn't given away, how often its wait was taken,
+  -- where the list begins and ends, and sums that stand for the list and keep what the plan's conditions ask
   pub runs_are : AreRunsOf plan (events_of ticks) waiters runs
   -- in some order they are those that wait after the ticks, each once
   pub lists_are : IsPermutation (map (λ waiter. waiting_for waiter.list waiter.stage) waiters) (waiting_after plan ticks)

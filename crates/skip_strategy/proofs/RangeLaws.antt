@@ -22,7 +22,8 @@ pub range_of_one : (from position : ℕ) → is_from from (from + 1) position �
 range_of_one from position = by_order (cases_order from position) where
   by_order : (from ≡ position) ⊎ ((from < position) ⊎ (position < from)) → is_from from (from + 1) position ≡ (from == position)
   by_order (inl e) = (λ i. le-leb from position (omega (arith, e)) i && lt-ltb position (from + 1) (omega (arith, e)) i) ∙ sym (eq-eqb from position e)
-  by_order (inr (inl lt)) = (λ i. le-leb from position (omega (arith, lt)) i && le-ltb position (from + 1) (omega (arith, lt)) i) ∙ sym (ne_eqb from position (λ e. omega (arith, e, lt)))
+  by_order (inr (inl lt)) = (λ i. le-leb from position (omega (arith, lt)) i && le-ltb position (from + 1) (omega (arith, lt)) i)
+      ∙ sym (ne_eqb from position (λ e. omega (arith, e, lt)))
   by_order (inr (inr lt)) = (λ i. lt-leb from position lt i && nat_lt position (from + 1)) ∙ sym (ne_eqb from position (λ e. omega (arith, e, lt)))
 
 -- the range with its end
@@ -33,7 +34,8 @@ range_through from to position = ap (λ b. nat_le from position && b) (by_order 
   by_order (inr le) = lt-ltb position (to + 1) (omega (arith, le)) ∙ sym (le-leb position to le)
 
 -- the last event for a stage, with one more
-pub newer_behind : (stage : ℕ) (list : List Taken) (next : Taken) → newer stage (end_of (entries_for stage list)) next ≡ end_of (entries_for stage (list ++ next ∷ []))
+pub newer_behind : (stage : ℕ) (list : List Taken) (next : Taken)
+    → newer stage (end_of (entries_for stage list)) next ≡ end_of (entries_for stage (list ++ next ∷ []))
 newer_behind stage list next = by_test (next.stage == stage) ∙ sym (ap end_of (filter-append (λ (t : Taken). t.stage == stage) list (next ∷ []))) where
   by_test : (b : Bool) → cond b (Some next.position) (end_of (entries_for stage list)) ≡ end_of (entries_for stage list ++ cond b (next ∷ []) [])
   by_test true = sym (ap (option_map (λ (t : Taken). t.position)) (last_or-push None (entries_for stage list) next))

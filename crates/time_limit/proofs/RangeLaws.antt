@@ -33,11 +33,13 @@ IsNonDecreasingBy-in_order (s ∷ starts) order (suc i) zero d le lt = absurd (o
 IsNonDecreasingBy-in_order (s ∷ starts) order (suc i) (suc j) d le lt = IsNonDecreasingBy-in_order starts order.1 i j d (omega (arith, le)) (omega (arith, lt))
 
 -- the place of one position and that of a later one
-pub places-order : (starts : List Start) (first end from to : ℕ) → from ≤ to → first ≤ length starts → Each (λ s. s.position < from) (take first starts) → Each (λ s. to ≤ s.position) (drop end starts) → first ≤ end
+pub places-order : (starts : List Start) (first end from to : ℕ) → from ≤ to → first ≤ length starts
+    → Each (λ s. s.position < from) (take first starts) → Each (λ s. to ≤ s.position) (drop end starts) → first ≤ end
 places-order [] first end from to le bound before behind = omega (arith, bound)
 places-order (s ∷ starts) zero end from to le bound before behind = omega arith
 places-order (s ∷ starts) (suc first) zero from to le bound before behind = absurd (omega (arith, le, before.0, behind.0))
-places-order (s ∷ starts) (suc first) (suc end) from to le bound before behind = let later = places-order starts first end from to le (omega (arith, bound)) before.1 behind in omega (arith, later)
+places-order (s ∷ starts) (suc first) (suc end) from to le bound before behind =
+    let later = places-order starts first end from to le (omega (arith, bound)) before.1 behind in omega (arith, later)
 
 module _ (from to : ℕ) where
   abbrev stays : Start → Bool
@@ -58,11 +60,13 @@ module _ (from to : ℕ) where
   -- no start behind the range goes
   all_stay : (starts : List Start) → Each (λ s. to ≤ s.position) starts → filter stays starts ≡ starts
   all_stay [] h = refl
-  all_stay (s ∷ starts) h = ap (λ b. cond b (s ∷ filter stays starts) (filter stays starts)) (stays-behind s.position h.0) ∙ ap (λ more. s ∷ more) (all_stay starts h.1)
+  all_stay (s ∷ starts) h = ap (λ b. cond b (s ∷ filter stays starts) (filter stays starts)) (stays-behind s.position h.0)
+      ∙ ap (λ more. s ∷ more) (all_stay starts h.1)
 
   -- the starts between the two places are those in the range
   pub range-between : from ≤ to → (starts : List Start) (first end : ℕ)
-      → Each (λ s. s.position < from) (take first starts) → Each (λ s. from ≤ s.position) (drop first starts) → Each (λ s. s.position < to) (take end starts) → Each (λ s. to ≤ s.position) (drop end starts)
+      → Each (λ s. s.position < from) (take first starts) → Each (λ s. from ≤ s.position) (drop first starts)
+      → Each (λ s. s.position < to) (take end starts) → Each (λ s. to ≤ s.position) (drop end starts)
       → filter stays starts ≡ take first starts ++ drop end starts
   range-between le [] zero zero a b c d = refl
   range-between le [] zero (suc end) a b c d = refl
@@ -86,4 +90,5 @@ module _ (from to : ℕ) where
 
   pub range-empty : to ≤ from → (starts : List Start) → filter stays starts ≡ starts
   range-empty le [] = refl
-  range-empty le (s ∷ starts) = ap (λ b. cond b (s ∷ filter stays starts) (filter stays starts)) (stays-empty le s.position) ∙ ap (λ more. s ∷ more) (range-empty le starts)
+  range-empty le (s ∷ starts) = ap (λ b. cond b (s ∷ filter stays starts) (filter stays starts)) (stays-empty le s.position)
+      ∙ ap (λ more. s ∷ more) (range-empty le starts)

@@ -1,4 +1,5 @@
--- The starts whose time limit is open. That a limit is reached at the time of the first event plus `within` is as in the FlinkCEP chapter of the Flink manual; the exact bound is this project's own.
+-- The starts whose time limit is open. That a limit is reached at the time of the first event plus `within` is as in the FlinkCEP chapter of the
+-- Flink manual; the exact bound is this project's own.
 use Rattle.std.specs.Prelude.{ℕ, pos, ◌+ℤ◌, int_le, ◌<◌, ◌≡◌, ⊤, Bool, true, false, if◌then◌else◌, List, [], ◌∷◌, Option, Some, None, option_map}
 use Rattle.std.specs.List.{AllByRecursion as Each}
 use Rattle.cep_event.specs.declared.record.Moment.{Moment}

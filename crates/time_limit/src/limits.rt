@@ -91,7 +91,8 @@ impl Limits {
     /// Keeps a start, where there is a time limit. It comes behind those that are kept.
     pub fn add(&mut self, start: u32, ts: i64) -> Result<(), NoMemory>
         requires { Each (λ s. (s.position < start) × (int_le s.ts ts ≡ true)) self.old.starts }
-        ensures ok { OnOk result (self.new ≡ record self.old { starts = self.old.starts ++ limited self.old.within (record { position = start; ts = ts } ∷ []) }) }
+        ensures ok { OnOk result (self.new
+            ≡ record self.old { starts = self.old.starts ++ limited self.old.within (record { position = start; ts = ts } ∷ []) }) }
         ensures err { OnErr result (self.new ≡ self.old) }
     {
         if self.within.is_some() {

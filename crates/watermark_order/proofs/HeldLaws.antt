@@ -39,7 +39,8 @@ not_sooner x event rows le = is_sooner-order.one_way x event (by_times (int_cmp 
     lower a b h = grind arith
   by_times Greater is = absurd (not_greater x.ts event.ts is le)
 
-pub upward-behind : (events : List Event) (event : Event) → IsUpward events → Each (λ y. y.row < event.row) events → is_behind events event.ts ≡ true → IsUpward (events ++ event ∷ [])
+pub upward-behind : (events : List Event) (event : Event) → IsUpward events → Each (λ y. y.row < event.row) events → is_behind events event.ts ≡ true
+    → IsUpward (events ++ event ∷ [])
 upward-behind [] event h rows le = (tt, tt)
 upward-behind (x ∷ []) event h rows le = ((not_sooner x event rows.0 le, tt), (tt, tt))
 upward-behind (x ∷ y ∷ xs) event h rows le =
@@ -47,7 +48,8 @@ upward-behind (x ∷ y ∷ xs) event h rows le =
     let last : is_sooner event y ≡ false = (each-right (λ z. is_sooner z y ≡ false) xs (event ∷ []) rest.0).0 in
     (each-append (λ z. is_sooner z x ≡ false) (y ∷ xs) (event ∷ []) h.0 (is_sooner-order.chain event y x last h.0.0, tt), rest)
 
-pub upward-pushed : (ok : Bool) (old new : List Event) (event : Event) → new ≡ (if ok then old ++ event ∷ [] else old) → IsUpward old → IsUpward (old ++ event ∷ []) → IsUpward new
+pub upward-pushed : (ok : Bool) (old new : List Event) (event : Event) → new ≡ (if ok then old ++ event ∷ [] else old) → IsUpward old
+    → IsUpward (old ++ event ∷ []) → IsUpward new
 upward-pushed true old new event is up up' = subst IsUpward (sym is) up'
 upward-pushed false old new event is up up' = subst IsUpward (sym is) up
 
@@ -57,9 +59,11 @@ each-held P queue aside whole is h =
     let all : Each P (queue ++ aside) = each-from_order P (queue ++ aside) (subst (Each P) (sym is) h) in
     (each-left P queue aside all, each-right P queue aside all)
 
-pub pushed-behind : (queue queue' aside whole : List Event) (event : Event) → in_time_order (queue ++ aside) ≡ whole → Each (λ y. y.row < event.row) queue → queue' ≡ queue ++ event ∷ [] → in_time_order (queue' ++ aside) ≡ put_in_order event whole
+pub pushed-behind : (queue queue' aside whole : List Event) (event : Event) → in_time_order (queue ++ aside) ≡ whole
+    → Each (λ y. y.row < event.row) queue → queue' ≡ queue ++ event ∷ [] → in_time_order (queue' ++ aside) ≡ put_in_order event whole
 pushed-behind queue queue' aside whole event is rows pushed =
-    ap (λ l. in_time_order (l ++ aside)) pushed ∙ ap in_time_order (append_assoc queue (event ∷ []) aside) ∙ order-behind event queue aside rows ∙ ap (put_in_order event) is
+    ap (λ l. in_time_order (l ++ aside)) pushed ∙ ap in_time_order (append_assoc queue (event ∷ []) aside) ∙ order-behind event queue aside rows
+    ∙ ap (put_in_order event) is
 
 -- ---- into the map
 
@@ -74,9 +78,11 @@ not_equal y event rows is = by_sooner (one_sooner y event rows) where
   by_sooner (inr h) = let no : true ≡ false = sym h ∙ ap is_lt is in cc
 
 abbrev pub IsPut : Event → List ((ℤ × ℕ) × Event) → Type 0
-IsPut event entries = (values_of (insert_entry key_cmp entries (key_of event) event) ≡ put_in_order event (values_of entries)) × Each IsKeyed (insert_entry key_cmp entries (key_of event) event)
+IsPut event entries = (values_of (insert_entry key_cmp entries (key_of event) event) ≡ put_in_order event (values_of entries))
+    × Each IsKeyed (insert_entry key_cmp entries (key_of event) event)
 
-pub aside-put : (event : Event) (entries : List ((ℤ × ℕ) × Event)) → Each IsKeyed entries → Each (λ y. y.row < event.row) (values_of entries) → IsPut event entries
+pub aside-put : (event : Event) (entries : List ((ℤ × ℕ) × Event)) → Each IsKeyed entries → Each (λ y. y.row < event.row) (values_of entries)
+    → IsPut event entries
 aside-put event [] keyed rows = (refl, (refl, tt))
 aside-put event (e ∷ entries) keyed rows = by_order (time_cmp event e.1) refl (aside-put event entries keyed.1 rows.1) where
   key : key_cmp (key_of event) e.0 ≡ time_cmp event e.1
@@ -89,7 +95,8 @@ aside-put event (e ∷ entries) keyed rows = by_order (time_cmp event e.1) refl 
   by_order Less is go =
       let test : is_sooner e.1 event ≡ false = ap is_lt (time_cmp-total.antisymm e.1 event ∙ ap ordering_reverse is) in
       let here : insert_entry key_cmp (e ∷ entries) (key_of event) event ≡ (key_of event, event) ∷ e ∷ entries =
-      ap (λ o. match_ordering o ((key_of event, event) ∷ e ∷ entries) ((e.0, event) ∷ entries) (e ∷ insert_entry key_cmp entries (key_of event) event)) (key ∙ is) in (
+      ap (λ o. match_ordering o ((key_of event, event) ∷ e ∷ entries) ((e.0, event) ∷ entries)
+      (e ∷ insert_entry key_cmp entries (key_of event) event)) (key ∙ is) in (
         ap values_of here ∙ sym (ap (λ b. if b then e.1 ∷ put_in_order event (values_of entries) else event ∷ e.1 ∷ values_of entries) test),
         subst (Each IsKeyed) (sym here) (refl, keyed),
       )
@@ -97,18 +104,24 @@ aside-put event (e ∷ entries) keyed rows = by_order (time_cmp event e.1) refl 
   by_order Greater is go =
       let test : is_sooner e.1 event ≡ true = ap is_lt (time_cmp-total.antisymm e.1 event ∙ ap ordering_reverse is) in
       let here : insert_entry key_cmp (e ∷ entries) (key_of event) event ≡ e ∷ insert_entry key_cmp entries (key_of event) event =
-      ap (λ o. match_ordering o ((key_of event, event) ∷ e ∷ entries) ((e.0, event) ∷ entries) (e ∷ insert_entry key_cmp entries (key_of event) event)) (key ∙ is) in (
-        ap values_of here ∙ ap (λ l. e.1 ∷ l) go.0 ∙ sym (ap (λ b. if b then e.1 ∷ put_in_order event (values_of entries) else event ∷ e.1 ∷ values_of entries) test),
+      ap (λ o. match_ordering o ((key_of event, event) ∷ e ∷ entries) ((e.0, event) ∷ entries)
+      (e ∷ insert_entry key_cmp entries (key_of event) event)) (key ∙ is) in (
+        ap values_of here ∙ ap (λ l. e.1 ∷ l) go.0
+            ∙ sym (ap (λ b. if b then e.1 ∷ put_in_order event (values_of entries) else event ∷ e.1 ∷ values_of entries) test),
         subst (Each IsKeyed) (sym here) (keyed.0, go.1),
       )
 
-pub pushed-aside : (queue : List Event) (aside entries : List ((ℤ × ℕ) × Event)) (whole : List Event) (event : Event) → in_time_order (queue ++ values_of aside) ≡ whole
-    → Each IsKeyed aside → Each (λ y. y.row < event.row) queue → Each (λ y. y.row < event.row) (values_of aside) → entries ≡ insert_entry key_cmp aside (key_of event) event
+pub pushed-aside : (queue : List Event) (aside entries : List ((ℤ × ℕ) × Event)) (whole : List Event) (event : Event)
+    → in_time_order (queue ++ values_of aside) ≡ whole
+    → Each IsKeyed aside → Each (λ y. y.row < event.row) queue → Each (λ y. y.row < event.row) (values_of aside)
+    → entries ≡ insert_entry key_cmp aside (key_of event) event
     → in_time_order (queue ++ values_of entries) ≡ put_in_order event whole
 pushed-aside queue aside entries whole event is keyed rows rows' put =
-    ap (λ l. in_time_order (queue ++ l)) (ap values_of put ∙ (aside-put event aside keyed rows').0) ∙ order-put event queue (values_of aside) rows ∙ ap (put_in_order event) is
+    ap (λ l. in_time_order (queue ++ l)) (ap values_of put ∙ (aside-put event aside keyed rows').0) ∙ order-put event queue (values_of aside) rows
+    ∙ ap (put_in_order event) is
 
-pub aside-held : (aside entries : List ((ℤ × ℕ) × Event)) (event : Event) → Each IsKeyed aside → IsUpward (values_of aside) → Each (λ y. y.row < event.row) (values_of aside)
+pub aside-held : (aside entries : List ((ℤ × ℕ) × Event)) (event : Event) → Each IsKeyed aside → IsUpward (values_of aside)
+    → Each (λ y. y.row < event.row) (values_of aside)
     → entries ≡ insert_entry key_cmp aside (key_of event) event → IsUpward (values_of entries) × Each IsKeyed entries
 aside-held aside entries event keyed up rows put =
     let here = aside-put event aside keyed rows in
@@ -119,14 +132,16 @@ aside-held aside entries event keyed up rows put =
 nothing_there : {X : Type 0} (x : X) → None ≡ Some x → ⊥
 nothing_there x h = cc
 
-pub first-here : (queue : List Event) (entries : List ((ℤ × ℕ) × Event)) (x y : Event) (k : ℤ × ℕ) → 0 < length queue → x ≡ get_or queue 0 x → slice_get entries 0 ≡ Some (k, y) → not (is_sooner y x) ≡ is_first_here queue (values_of entries)
+pub first-here : (queue : List Event) (entries : List ((ℤ × ℕ) × Event)) (x y : Event) (k : ℤ × ℕ) → 0 < length queue → x ≡ get_or queue 0 x
+    → slice_get entries 0 ≡ Some (k, y) → not (is_sooner y x) ≡ is_first_here queue (values_of entries)
 first-here [] entries x y k some at get = absurd (omega (arith, some))
 first-here (e ∷ queue) [] x y k some at get = absurd (nothing_there (k, y) get)
 first-here (e ∷ queue) (f ∷ entries) x y k some at get =
     let head : f ≡ (k, y) = let whole : Some f ≡ Some (k, y) = get in cc in
     λ i. not (is_sooner (sym head i).1 (at i))
 
-pub unreached-first : (mark : Option Moment) (entries : List ((ℤ × ℕ) × Event)) (y : Event) (k : ℤ × ℕ) → slice_get entries 0 ≡ Some (k, y) → is_reached mark y.ts ≡ false → None ≡ first_reached mark (values_of entries)
+pub unreached-first : (mark : Option Moment) (entries : List ((ℤ × ℕ) × Event)) (y : Event) (k : ℤ × ℕ) → slice_get entries 0 ≡ Some (k, y)
+    → is_reached mark y.ts ≡ false → None ≡ first_reached mark (values_of entries)
 unreached-first mark [] y k get is = refl
 unreached-first mark (f ∷ entries) y k get is =
     let head : f ≡ (k, y) = let whole : Some f ≡ Some (k, y) = get in cc in
@@ -149,7 +164,8 @@ later_unreached (Some (At now)) x y h is = above x.ts y.ts now (not_below (int_c
   above : (a b now : ℤ) → int_le a b ≡ true → int_le a now ≡ false → int_le b now ≡ false
   above a b now le past = grind (arith, ints)
 
-none_reached : (mark : Option Moment) (x : Event) (xs : List Event) → is_reached mark x.ts ≡ false → Each (λ y. is_sooner y x ≡ false) xs → Each (λ y. is_reached mark y.ts ≡ false) xs
+none_reached : (mark : Option Moment) (x : Event) (xs : List Event) → is_reached mark x.ts ≡ false → Each (λ y. is_sooner y x ≡ false) xs
+    → Each (λ y. is_reached mark y.ts ≡ false) xs
 none_reached mark x [] is h = tt
 none_reached mark x (y ∷ xs) is h = (later_unreached mark x y h.0 is, none_reached mark x xs is h.1)
 
@@ -205,28 +221,35 @@ each-sooner y x (z ∷ xs) h k = (by_test (is_sooner y z) refl, each-sooner y x 
   by_test false is = let no : true ≡ false = sym h ∙ is_sooner-order.chain y z x is k.0 in absurd cc
 
 -- the first of the queue, where no event of the map is sooner
-pub pop-queued : (mark : Option Moment) (queue left aside : List Event) (popped : Option Event) → IsUpward queue → IsUpward aside → is_first_here queue aside ≡ true
-    → popped ≡ first_reached mark queue → queue ≡ option_to_list popped ++ left → Popped mark (in_time_order (queue ++ aside)) popped (in_time_order (left ++ aside))
+pub pop-queued : (mark : Option Moment) (queue left aside : List Event) (popped : Option Event) → IsUpward queue → IsUpward aside
+    → is_first_here queue aside ≡ true
+    → popped ≡ first_reached mark queue → queue ≡ option_to_list popped ++ left
+    → Popped mark (in_time_order (queue ++ aside)) popped (in_time_order (left ++ aside))
 pop-queued mark [] left aside popped up up' here from rest = let no : false ≡ true = here in absurd cc
 pop-queued mark (x ∷ queue) left aside popped up up' here from rest =
     first_out mark x (in_time_order (queue ++ aside)) (in_time_order (x ∷ queue ++ aside)) (in_time_order (left ++ aside)) popped
     (order-first x (queue ++ aside) (each-append (λ z. is_sooner z x ≡ false) queue aside up.0 (of_aside aside up' here)))
     (order-upward (x ∷ queue ++ aside)) from
-    (λ out. let whole : x ∷ queue ≡ x ∷ left = rest ∙ ap (λ o. option_to_list o ++ left) out in let same : left ≡ queue = cc in ap (λ l. in_time_order (l ++ aside)) same)
+    (λ out. let whole : x ∷ queue ≡ x ∷ left = rest ∙ ap (λ o. option_to_list o ++ left) out in let same : left ≡ queue = cc in
+    ap (λ l. in_time_order (l ++ aside)) same)
     (λ out. ap (λ l. in_time_order (l ++ aside)) (sym (rest ∙ ap (λ o. option_to_list o ++ left) out))) where
       of_aside : (aside : List Event) → IsUpward aside → is_first_here (x ∷ queue) aside ≡ true → Each (λ z. is_sooner z x ≡ false) aside
       of_aside [] h k = tt
       of_aside (y ∷ ys) h k = let low : is_sooner y x ≡ false = was_true (is_sooner y x) k in (low, each-chain x y ys low h.0)
 
 -- the first of the map, where the queue has none that comes before it
-pub pop-aside : (mark : Option Moment) (queue aside left : List Event) (popped : Option Event) → IsUpward queue → IsUpward aside → is_first_here queue aside ≡ false
-    → popped ≡ first_reached mark aside → aside ≡ option_to_list popped ++ left → Popped mark (in_time_order (queue ++ aside)) popped (in_time_order (queue ++ left))
+pub pop-aside : (mark : Option Moment) (queue aside left : List Event) (popped : Option Event) → IsUpward queue → IsUpward aside
+    → is_first_here queue aside ≡ false
+    → popped ≡ first_reached mark aside → aside ≡ option_to_list popped ++ left
+    → Popped mark (in_time_order (queue ++ aside)) popped (in_time_order (queue ++ left))
 pop-aside mark [] [] left popped up up' here from rest =
     let empty : left ≡ [] = sym (rest ∙ ap (λ o. option_to_list o ++ left) from) in
     record {
       first = from;
       rest = λ i. option_to_list (sym from i) ++ in_time_order (sym empty i);
-      none = subst (λ o. IfNone o (Each (λ event. is_reached mark event.ts ≡ false) (in_time_order left))) (sym from) (subst (λ l. Each (λ event. is_reached mark event.ts ≡ false) (in_time_order l)) (sym empty) tt);
+      none =
+          subst (λ o. IfNone o (Each (λ event. is_reached mark event.ts ≡ false) (in_time_order left))) (sym from)
+          (subst (λ l. Each (λ event. is_reached mark event.ts ≡ false) (in_time_order l)) (sym empty) tt);
     }
 pop-aside mark (x ∷ queue) [] left popped up up' here from rest = let no : true ≡ false = here in absurd cc
 pop-aside mark [] (y ∷ aside) left popped up up' here from rest =
@@ -238,5 +261,6 @@ pop-aside mark (x ∷ queue) (y ∷ aside) left popped up up' here from rest =
     first_out mark y (in_time_order (x ∷ queue ++ aside)) (in_time_order (x ∷ queue ++ y ∷ aside)) (in_time_order (x ∷ queue ++ left)) popped
     (order-aside y (x ∷ queue) aside (low, each-sooner y x queue low up.0) up'.0)
     (order-upward (x ∷ queue ++ y ∷ aside)) from
-    (λ out. let whole : y ∷ aside ≡ y ∷ left = rest ∙ ap (λ o. option_to_list o ++ left) out in let same : left ≡ aside = cc in ap (λ l. in_time_order (x ∷ queue ++ l)) same)
+    (λ out. let whole : y ∷ aside ≡ y ∷ left = rest ∙ ap (λ o. option_to_list o ++ left) out in let same : left ≡ aside = cc in
+    ap (λ l. in_time_order (x ∷ queue ++ l)) same)
     (λ out. ap (λ l. in_time_order (x ∷ queue ++ l)) (sym (rest ∙ ap (λ o. option_to_list o ++ left) out)))

@@ -96,7 +96,8 @@ below-greater None time h = let clash : true ≡ false = h in absurd cc
 below-greater (Some greatest) time h = ap Some (ap (λ b. if b then time else greatest) h)
 
 -- a mark above the greatest one has reached what that one has reached
-pub reached-above : (greatest : Option ℤ) (time ts : ℤ) → is_above (option_map At greatest) time ≡ true → is_reached (option_map At greatest) ts ≡ true → int_le ts time ≡ true
+pub reached-above : (greatest : Option ℤ) (time ts : ℤ) → is_above (option_map At greatest) time ≡ true
+    → is_reached (option_map At greatest) ts ≡ true → int_le ts time ≡ true
 reached-above None time ts h k = let clash : false ≡ true = k in absurd cc
 reached-above (Some greatest) time ts h k = later greatest time ts h k where
   later : (greatest time ts : ℤ) → int_lt greatest time ≡ true → int_le ts greatest ≡ true → int_le ts time ≡ true

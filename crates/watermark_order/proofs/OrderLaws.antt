@@ -23,10 +23,12 @@ pub rises_is : (arrivals : List Arrival) (time : ℤ) → rises arrivals time �
 rises_is arrivals time = all-greatest time (marks_among arrivals)
 
 -- the events that wait, told by the greatest mark
-waiting_is : (arrivals : List Arrival) → waiting_of arrivals ≡ in_time_order (filter (λ event. not (is_reached (greatest_mark arrivals) event.ts)) (events_among arrivals))
+waiting_is : (arrivals : List Arrival)
+    → waiting_of arrivals ≡ in_time_order (filter (λ event. not (is_reached (greatest_mark arrivals) event.ts)) (events_among arrivals))
 waiting_is arrivals =
     ap in_time_order
-    (filter_same (λ event. not (is_passed arrivals event)) (λ event. not (is_reached (greatest_mark arrivals) event.ts)) (λ event. ap not (passed_is arrivals event)) (events_among arrivals))
+    (filter_same (λ event. not (is_passed arrivals event)) (λ event. not (is_reached (greatest_mark arrivals) event.ts))
+    (λ event. ap not (passed_is arrivals event)) (events_among arrivals))
 
 -- ---- one more event
 
@@ -37,10 +39,12 @@ events-arrived : (arrivals : List Arrival) (event : Event) → events_among (arr
 events-arrived arrivals event = filter_map-append event_arrived arrivals (arrived event ∷ [])
 
 pub times-arrived : (arrivals : List Arrival) (event : Event) → event_times (arrivals ++ arrived event ∷ []) ≡ event_times arrivals ++ event.ts ∷ []
-times-arrived arrivals event = ap (map (λ (e : Event). e.ts)) (events-arrived arrivals event) ∙ map-append (λ (e : Event). e.ts) (events_among arrivals) (event ∷ [])
+times-arrived arrivals event = ap (map (λ (e : Event). e.ts)) (events-arrived arrivals event)
+    ∙ map-append (λ (e : Event). e.ts) (events_among arrivals) (event ∷ [])
 
 waiting-arrived : (arrivals : List Arrival) (event : Event) → Each (λ waiting. waiting.row < event.row) (waiting_of arrivals)
-    → waiting_of (arrivals ++ arrived event ∷ []) ≡ (if is_reached (greatest_mark arrivals) event.ts then waiting_of arrivals else put_in_order event (waiting_of arrivals))
+    → waiting_of (arrivals ++ arrived event ∷ [])
+    ≡ (if is_reached (greatest_mark arrivals) event.ts then waiting_of arrivals else put_in_order event (waiting_of arrivals))
 waiting-arrived arrivals event rows =
     (λ i. in_time_order (filter (λ e. not (list_any (λ mark. int_le e.ts mark) (marks-arrived arrivals event i))) (events-arrived arrivals event i)))
     ∙ ap in_time_order (filter-append stays (events_among arrivals) (event ∷ []))
@@ -52,9 +56,11 @@ waiting-arrived arrivals event rows =
       left : List Event
       left = filter (λ e. not (is_passed arrivals e)) (events_among arrivals)
 
-      by_test : (b : Bool) → in_time_order (left ++ (if not b then event ∷ [] else [])) ≡ (if b then waiting_of arrivals else put_in_order event (waiting_of arrivals))
+      by_test : (b : Bool)
+          → in_time_order (left ++ (if not b then event ∷ [] else [])) ≡ (if b then waiting_of arrivals else put_in_order event (waiting_of arrivals))
       by_test true = ap in_time_order (append-nil left)
-      by_test false = order-behind event left [] (each-from_order (λ waiting. waiting.row < event.row) left rows) ∙ ap (λ l. put_in_order event (in_time_order l)) (append-nil left)
+      by_test false = order-behind event left [] (each-from_order (λ waiting. waiting.row < event.row) left rows)
+          ∙ ap (λ l. put_in_order event (in_time_order l)) (append-nil left)
 
 pub order_of-arrived : (lag : Option ℕ) (arrivals : List Arrival) (event : Event) → Each (λ waiting. waiting.row < event.row) (order_of lag arrivals).waiting
     → order_of lag (arrivals ++ arrived event ∷ []) ≡ with_event (order_of lag arrivals) event
@@ -81,7 +87,8 @@ pub lag_behind : (lag : Option ℕ) (before : List Arrival) (event : Event) (ord
     → mark_of_lag order.lag order.greatest ≡ marks_behind lag (event_times before) event.ts
 unfolding order_of
 lag_behind lag before event order is =
-    ap (λ o. mark_of_lag o.lag o.greatest) is ∙ ap (λ times. mark_of_lag lag (greatest_of times)) (times-arrived before event) ∙ mark_of_lag-behind lag (event_times before) event.ts
+    ap (λ o. mark_of_lag o.lag o.greatest) is ∙ ap (λ times. mark_of_lag lag (greatest_of times)) (times-arrived before event)
+    ∙ mark_of_lag-behind lag (event_times before) event.ts
 
 -- ---- one more mark
 
@@ -91,8 +98,10 @@ marks-marked arrivals time = filter_map-append time_marked arrivals (marked time
 events-marked : (arrivals : List Arrival) (time : ℤ) → events_among (arrivals ++ marked time ∷ []) ≡ events_among arrivals
 events-marked arrivals time = filter_map-append event_arrived arrivals (marked time ∷ []) ∙ append-nil (events_among arrivals)
 
-pub mark-marked : (arrivals : List Arrival) (time : ℤ) → greatest_mark (arrivals ++ marked time ∷ []) ≡ Some (At (greater_time (greatest_of (marks_among arrivals)) time))
-mark-marked arrivals time = ap (λ marks. option_map At (greatest_of marks)) (marks-marked arrivals time) ∙ ap (option_map At) (greatest-more (marks_among arrivals) time)
+pub mark-marked : (arrivals : List Arrival) (time : ℤ)
+    → greatest_mark (arrivals ++ marked time ∷ []) ≡ Some (At (greater_time (greatest_of (marks_among arrivals)) time))
+mark-marked arrivals time = ap (λ marks. option_map At (greatest_of marks)) (marks-marked arrivals time)
+    ∙ ap (option_map At) (greatest-more (marks_among arrivals) time)
 
 -- the events that wait after one more mark, from the greatest mark then
 waiting-marked : (arrivals : List Arrival) (time : ℤ) (mark : Option Moment) → greatest_mark (arrivals ++ marked time ∷ []) ≡ mark
@@ -100,7 +109,8 @@ waiting-marked : (arrivals : List Arrival) (time : ℤ) (mark : Option Moment) �
 waiting-marked arrivals time mark is =
     waiting_is (arrivals ++ marked time ∷ []) ∙ (λ i. in_time_order (filter (λ event. not (is_reached (is i) event.ts)) (events-marked arrivals time i)))
 
-pub order_of-stays : (lag : Option ℕ) (arrivals : List Arrival) (time : ℤ) → is_above (greatest_mark arrivals) time ≡ false → order_of lag (arrivals ++ marked time ∷ []) ≡ order_of lag arrivals
+pub order_of-stays : (lag : Option ℕ) (arrivals : List Arrival) (time : ℤ) → is_above (greatest_mark arrivals) time ≡ false
+    → order_of lag (arrivals ++ marked time ∷ []) ≡ order_of lag arrivals
 unfolding order_of
 order_of-stays lag arrivals time low =
     let mark : greatest_mark (arrivals ++ marked time ∷ []) ≡ greatest_mark arrivals =
@@ -128,7 +138,8 @@ left-marked arrivals time high =
     ∙ ap in_time_order
     (filter_both (λ event. not (int_le event.ts time)) (λ event. not (is_reached (greatest_mark arrivals) event.ts)) (events_among arrivals)
     ∙ filter_same (λ event. not (int_le event.ts time) && not (is_reached (greatest_mark arrivals) event.ts)) (λ event. not (int_le event.ts time))
-    (λ event. only_higher (int_le event.ts time) (is_reached (greatest_mark arrivals) event.ts) (reached-above (greatest_of (marks_among arrivals)) time event.ts high)) (events_among arrivals))
+    (λ event. only_higher (int_le event.ts time) (is_reached (greatest_mark arrivals) event.ts)
+    (reached-above (greatest_of (marks_among arrivals)) time event.ts high)) (events_among arrivals))
 
 released_is : (arrivals : List Arrival) (mark : Moment) → filter (λ event. has_reached mark event.ts) (waiting_of arrivals) ≡ released arrivals mark
 unfolding released
@@ -178,7 +189,8 @@ HandsOut-nothing lag arrivals =
     let test : Event → Bool = λ event. is_reached (greatest_mark arrivals) event.ts in
     let left : List Event = events_among arrivals in
     record {
-      events_ready = ap (filter test) (waiting_is arrivals) ∙ filter-order test (filter (λ event. not (test event)) left) ∙ ap in_time_order (none_left test left);
+      events_ready = ap (filter test) (waiting_is arrivals) ∙ filter-order test (filter (λ event. not (test event)) left)
+          ∙ ap in_time_order (none_left test left);
       then_settled =
           λ i. record {
             lag = lag;
@@ -194,18 +206,21 @@ HandsOut-nothing lag arrivals =
 
 -- ---- one more mark, for an order that stands for some arrivals
 
-pub rises_of : (lag : Option ℕ) (arrivals : List Arrival) (time : ℤ) (order : OrderState) → order ≡ order_of lag arrivals → rises arrivals time ≡ is_above order.mark time
+pub rises_of : (lag : Option ℕ) (arrivals : List Arrival) (time : ℤ) (order : OrderState) → order ≡ order_of lag arrivals
+    → rises arrivals time ≡ is_above order.mark time
 unfolding order_of
 rises_of lag arrivals time order is = rises_is arrivals time ∙ ap (λ o. is_above o.mark time) (sym is)
 
-pub stays_of : (lag : Option ℕ) (arrivals : List Arrival) (time : ℤ) (order : OrderState) → order ≡ order_of lag arrivals → is_above order.mark time ≡ false → order ≡ order_of lag (arrivals ++ marked time ∷ [])
+pub stays_of : (lag : Option ℕ) (arrivals : List Arrival) (time : ℤ) (order : OrderState) → order ≡ order_of lag arrivals
+    → is_above order.mark time ≡ false → order ≡ order_of lag (arrivals ++ marked time ∷ [])
 stays_of lag arrivals time order is low = is ∙ sym (order_of-stays lag arrivals time (sym (rises_is arrivals time) ∙ rises_of lag arrivals time order is ∙ low))
 
 pub HandsOut-low : (lag : Option ℕ) (arrivals : List Arrival) (time : ℤ) (order : OrderState) → order ≡ order_of lag arrivals → is_above order.mark time ≡ false
     → HandsOut order [] (order_of lag (arrivals ++ marked time ∷ []))
 HandsOut-low lag arrivals time order is low =
     let same : order_of lag (arrivals ++ marked time ∷ []) ≡ order_of lag arrivals = order_of-stays lag arrivals time (sym (rises_is arrivals time) ∙ rises_of lag arrivals time order is ∙ low) in
-    subst (λ o. HandsOut o [] (order_of lag (arrivals ++ marked time ∷ []))) (sym is) (subst (HandsOut (order_of lag arrivals) []) (sym same) (HandsOut-nothing lag arrivals))
+    subst (λ o. HandsOut o [] (order_of lag (arrivals ++ marked time ∷ []))) (sym is)
+    (subst (HandsOut (order_of lag arrivals) []) (sym same) (HandsOut-nothing lag arrivals))
 
 pub HandsOut-high : (lag : Option ℕ) (arrivals : List Arrival) (time : ℤ) (order : OrderState) → order ≡ order_of lag arrivals → is_above order.mark time ≡ true
     → HandsOut (with_mark order (At time)) (released arrivals (At time)) (order_of lag (arrivals ++ marked time ∷ []))
@@ -219,7 +234,8 @@ keeps_none : {X : Type 0} (xs : List X) → filter (λ x. false) xs ≡ []
 keeps_none [] = refl
 keeps_none (x ∷ xs) = keeps_none xs
 
-pub HandsOut-end : (lag : Option ℕ) (arrivals : List Arrival) → HandsOut (with_mark (order_of lag arrivals) End) (released arrivals End) (ended (order_of lag arrivals))
+pub HandsOut-end : (lag : Option ℕ) (arrivals : List Arrival)
+    → HandsOut (with_mark (order_of lag arrivals) End) (released arrivals End) (ended (order_of lag arrivals))
 unfolding order_of
 HandsOut-end lag arrivals =
     record {
@@ -241,33 +257,37 @@ abbrev state : Option ℕ → Option Moment → Option ℤ → List Event → Or
 state lag mark greatest waiting = record { lag = lag; mark = mark; greatest = greatest; waiting = waiting }
 
 module _ (lag : Option ℕ) (mark : Option Moment) (greatest : Option ℤ) where
-  pub nothing_ready : (popped : Option Event) (whole left : List Event) → whole ≡ option_to_list popped ++ left → IfNone popped (Each (λ event. is_reached mark event.ts ≡ false) left)
+  pub nothing_ready : (popped : Option Event) (whole left : List Event) → whole ≡ option_to_list popped ++ left
+      → IfNone popped (Each (λ event. is_reached mark event.ts ≡ false) left)
       → IfNone popped (ready (state lag mark greatest whole) ≡ [])
   nothing_ready (Some event) whole left rest unreached = tt
-  nothing_ready None whole left rest unreached = ap (filter (λ event. is_reached mark event.ts)) rest ∙ none_kept (λ event. is_reached mark event.ts) left unreached
+  nothing_ready None whole left rest unreached = ap (filter (λ event. is_reached mark event.ts)) rest
+      ∙ none_kept (λ event. is_reached mark event.ts) left unreached
 
   pub nothing_settles : (popped : Option Event) (left : List Event) → IfNone popped (Each (λ event. is_reached mark event.ts ≡ false) left)
       → IfNone popped (settled (state lag mark greatest left) ≡ state lag mark greatest left)
   nothing_settles (Some event) left unreached = tt
   nothing_settles None left unreached = λ i. state lag mark greatest (all_kept (λ event. is_reached mark event.ts) left unreached i)
 
-  pub nothing_changes : (popped : Option Event) (whole left : List Event) → whole ≡ option_to_list popped ++ left → IfNone popped (state lag mark greatest left ≡ state lag mark greatest whole)
+  pub nothing_changes : (popped : Option Event) (whole left : List Event) → whole ≡ option_to_list popped ++ left
+      → IfNone popped (state lag mark greatest left ≡ state lag mark greatest whole)
   nothing_changes (Some event) whole left rest = tt
   nothing_changes None whole left rest = λ i. state lag mark greatest (sym rest i)
 
 -- where nothing is ready, the order is settled
 pub settled_same : (order : OrderState) → ready order ≡ [] → settled order ≡ order
-settled_same order none = λ i. state order.lag order.mark order.greatest (keeps_all (λ (event : Event). is_reached order.mark event.ts) order.waiting none i) where
-  cons_none : {X : Type 0} (x : X) (xs : List X) → x ∷ xs ≡ [] → ⊥
-  cons_none x xs h = cc
+settled_same order none =
+    λ i. state order.lag order.mark order.greatest (keeps_all (λ (event : Event). is_reached order.mark event.ts) order.waiting none i) where
+      cons_none : {X : Type 0} (x : X) (xs : List X) → x ∷ xs ≡ [] → ⊥
+      cons_none x xs h = cc
 
-  keeps_all : {X : Type 0} (p : X → Bool) (xs : List X) → filter p xs ≡ [] → filter (λ x. not (p x)) xs ≡ xs
-  keeps_all p [] h = refl
-  keeps_all p (x ∷ xs) h = chosen (p x) h (keeps_all p xs) where
-    chosen : (b : Bool) → (if b then x ∷ filter p xs else filter p xs) ≡ [] → (filter p xs ≡ [] → filter (λ y. not (p y)) xs ≡ xs)
-        → (if not b then x ∷ filter (λ y. not (p y)) xs else filter (λ y. not (p y)) xs) ≡ x ∷ xs
-    chosen true h go = absurd (cons_none x (filter p xs) h)
-    chosen false h go = ap (λ l. x ∷ l) (go h)
+      keeps_all : {X : Type 0} (p : X → Bool) (xs : List X) → filter p xs ≡ [] → filter (λ x. not (p x)) xs ≡ xs
+      keeps_all p [] h = refl
+      keeps_all p (x ∷ xs) h = chosen (p x) h (keeps_all p xs) where
+        chosen : (b : Bool) → (if b then x ∷ filter p xs else filter p xs) ≡ [] → (filter p xs ≡ [] → filter (λ y. not (p y)) xs ≡ xs)
+            → (if not b then x ∷ filter (λ y. not (p y)) xs else filter (λ y. not (p y)) xs) ≡ x ∷ xs
+        chosen true h go = absurd (cons_none x (filter p xs) h)
+        chosen false h go = ap (λ l. x ∷ l) (go h)
 
 -- ---- what is said of each event that waits
 
@@ -282,7 +302,8 @@ module _ (P : Event → Type 0) where
     chosen true = rest
     chosen false = put-each P event order.waiting here rest
 
-  pub each-mark : (rising : Bool) (order next : OrderState) (mark : Moment) → next ≡ (if rising then with_mark order mark else order) → Each P order.waiting → Each P next.waiting
+  pub each-mark : (rising : Bool) (order next : OrderState) (mark : Moment) → next ≡ (if rising then with_mark order mark else order)
+      → Each P order.waiting → Each P next.waiting
   each-mark true order next mark is rest = subst (λ o. Each P o.waiting) (sym is) rest
   each-mark false order next mark is rest = subst (λ o. Each P o.waiting) (sym is) rest
 
@@ -292,4 +313,6 @@ module _ (P : Event → Type 0) where
   -- what is said of each event that arrived
   pub each-waiting : (lag : Option ℕ) (arrivals : List Arrival) → Each P (events_among arrivals) → Each P (order_of lag arrivals).waiting
   unfolding order_of
-  each-waiting lag arrivals rest = each-order P (filter (λ event. not (is_passed arrivals event)) (events_among arrivals)) (each-filter P (λ event. not (is_passed arrivals event)) (events_among arrivals) rest)
+  each-waiting lag arrivals rest =
+      each-order P (filter (λ event. not (is_passed arrivals event)) (events_among arrivals))
+      (each-filter P (λ event. not (is_passed arrivals event)) (events_among arrivals) rest)

@@ -29,7 +29,8 @@ arrivals_after-append lag earlier (Blank ∷ records) more = arrivals_after-appe
 arrivals_after-append lag earlier (Mark time ∷ records) more = ap (λ l. marked time ∷ l) (arrivals_after-append lag earlier records more)
 arrivals_after-append lag earlier (Row event ∷ records) more =
     ap (λ l. (arrived event ∷ marks_behind lag earlier event.ts) ++ l) (arrivals_after-append lag (event.ts ∷ earlier) records more)
-    ∙ sym (append_assoc (arrived event ∷ marks_behind lag earlier event.ts) (arrivals_after lag (event.ts ∷ earlier) records) (arrivals_after lag (times_after (event.ts ∷ earlier) records) more))
+    ∙ sym (append_assoc (arrived event ∷ marks_behind lag earlier event.ts) (arrivals_after lag (event.ts ∷ earlier) records)
+    (arrivals_after lag (times_after (event.ts ∷ earlier) records) more))
 
 event_times-append : (xs ys : List Arrival) → event_times (xs ++ ys) ≡ event_times xs ++ event_times ys
 event_times-append xs ys =
@@ -55,12 +56,14 @@ greatest_after lag time earlier (Mark t ∷ records) = greatest_after lag time e
 greatest_after lag time earlier (Row event ∷ records) =
     let later = event_times (arrivals_after lag (event.ts ∷ earlier) records) in
     let all : event_times (arrivals_after lag earlier (Row event ∷ records)) ≡ event.ts ∷ later =
-    ap (λ l. event.ts ∷ l) (event_times-append (marks_behind lag earlier event.ts) (arrivals_after lag (event.ts ∷ earlier) records) ∙ ap (λ l. l ++ later) (no_times lag earlier event.ts)) in
+    ap (λ l. event.ts ∷ l) (event_times-append (marks_behind lag earlier event.ts) (arrivals_after lag (event.ts ∷ earlier) records)
+    ∙ ap (λ l. l ++ later) (no_times lag earlier event.ts)) in
     greatest_after lag time (event.ts ∷ earlier) records
     ∙ greatest-moved time event.ts later earlier
     ∙ ap (λ l. greatest_from time (l ++ earlier)) (sym all)
 
-marks_by_greatest : (lag : Option ℕ) (xs ys : List ℤ) (time : ℤ) → greatest_from time xs ≡ greatest_from time ys → marks_behind lag xs time ≡ marks_behind lag ys time
+marks_by_greatest : (lag : Option ℕ) (xs ys : List ℤ) (time : ℤ) → greatest_from time xs ≡ greatest_from time ys
+    → marks_behind lag xs time ≡ marks_behind lag ys time
 marks_by_greatest None xs ys time same = refl
 marks_by_greatest (Some lag) xs ys time same = ap (lag_mark lag) same
 
@@ -69,7 +72,8 @@ pub arrivals_of-blank : (lag : Option ℕ) (records : List LineRecord) → arriv
 arrivals_of-blank lag records = arrivals_after-append lag [] records (Blank ∷ []) ∙ append-nil (arrivals_of lag records)
 
 -- a mark brings itself
-pub arrivals_of-mark : (lag : Option ℕ) (records : List LineRecord) (time : ℤ) → arrivals_of lag (records ++ Mark time ∷ []) ≡ arrivals_of lag records ++ marked time ∷ []
+pub arrivals_of-mark : (lag : Option ℕ) (records : List LineRecord) (time : ℤ)
+    → arrivals_of lag (records ++ Mark time ∷ []) ≡ arrivals_of lag records ++ marked time ∷ []
 arrivals_of-mark lag records time = arrivals_after-append lag [] records (Mark time ∷ [])
 
 -- a row brings its event, and behind it what the lag adds
@@ -80,7 +84,8 @@ arrivals_of-row lag records event =
     greatest_after lag event.ts [] records ∙ ap (greatest_from event.ts) (append-nil (event_times (arrivals_of lag records))) in
     arrivals_after-append lag [] records (Row event ∷ [])
     ∙ ap (λ l. arrivals_of lag records ++ arrived event ∷ l)
-    (append-nil (marks_behind lag (times_after [] records) event.ts) ∙ marks_by_greatest lag (times_after [] records) (event_times (arrivals_of lag records)) event.ts same)
+    (append-nil (marks_behind lag (times_after [] records) event.ts)
+    ∙ marks_by_greatest lag (times_after [] records) (event_times (arrivals_of lag records)) event.ts same)
 
 -- ---- which ticks that gives
 
@@ -95,7 +100,8 @@ pub ticks_of-blank : (lag : Option ℕ) (records : List LineRecord) → ticks_of
 unfolding ticks_of
 ticks_of-blank lag records = ap (ticks_after []) (arrivals_of-blank lag records)
 
-pub ticks_of-mark : (lag : Option ℕ) (records : List LineRecord) (time : ℤ) → ticks_of lag (records ++ Mark time ∷ []) ≡ ticks_of lag records ++ ticks_of_arrival (arrivals_of lag records) (marked time)
+pub ticks_of-mark : (lag : Option ℕ) (records : List LineRecord) (time : ℤ)
+    → ticks_of lag (records ++ Mark time ∷ []) ≡ ticks_of lag records ++ ticks_of_arrival (arrivals_of lag records) (marked time)
 unfolding ticks_of
 ticks_of-mark lag records time =
     ap (ticks_after []) (arrivals_of-mark lag records time)
@@ -114,24 +120,29 @@ ticks_of-row lag records event =
 -- ---- the same, from the mark that the order answers for the lag
 
 -- no mark: the event is all that arrived, and there is no tick
-pub arrivals_of-row_alone : (lag : Option ℕ) (records : List LineRecord) (event : Event) → [] ≡ marks_behind lag (event_times (arrivals_of lag records)) event.ts
+pub arrivals_of-row_alone : (lag : Option ℕ) (records : List LineRecord) (event : Event)
+    → [] ≡ marks_behind lag (event_times (arrivals_of lag records)) event.ts
     → arrivals_of lag (records ++ Row event ∷ []) ≡ arrivals_of lag records ++ arrived event ∷ []
 arrivals_of-row_alone lag records event none = arrivals_of-row lag records event ∙ ap (λ marks. arrivals_of lag records ++ arrived event ∷ marks) (sym none)
 
 pub ticks_of-row_alone : (lag : Option ℕ) (records : List LineRecord) (event : Event) → [] ≡ marks_behind lag (event_times (arrivals_of lag records)) event.ts
     → ticks_of lag (records ++ Row event ∷ []) ≡ ticks_of lag records
 ticks_of-row_alone lag records event none =
-    ticks_of-row lag records event ∙ ap (λ marks. ticks_of lag records ++ ticks_after (arrivals_of lag records ++ arrived event ∷ []) marks) (sym none) ∙ append-nil (ticks_of lag records)
+    ticks_of-row lag records event
+    ∙ ap (λ marks. ticks_of lag records ++ ticks_after (arrivals_of lag records ++ arrived event ∷ []) marks) (sym none)
+    ∙ append-nil (ticks_of lag records)
 
 -- a mark: it arrived behind the event, and its ticks are all
-pub arrivals_of-row_marked : (lag : Option ℕ) (records : List LineRecord) (event : Event) (time : ℤ) → marked time ∷ [] ≡ marks_behind lag (event_times (arrivals_of lag records)) event.ts
+pub arrivals_of-row_marked : (lag : Option ℕ) (records : List LineRecord) (event : Event) (time : ℤ)
+    → marked time ∷ [] ≡ marks_behind lag (event_times (arrivals_of lag records)) event.ts
     → arrivals_of lag (records ++ Row event ∷ []) ≡ (arrivals_of lag records ++ arrived event ∷ []) ++ marked time ∷ []
 arrivals_of-row_marked lag records event time one =
     arrivals_of-row lag records event
     ∙ ap (λ marks. arrivals_of lag records ++ arrived event ∷ marks) (sym one)
     ∙ sym (append_assoc (arrivals_of lag records) (arrived event ∷ []) (marked time ∷ []))
 
-pub ticks_of-row_marked : (lag : Option ℕ) (records : List LineRecord) (event : Event) (time : ℤ) → marked time ∷ [] ≡ marks_behind lag (event_times (arrivals_of lag records)) event.ts
+pub ticks_of-row_marked : (lag : Option ℕ) (records : List LineRecord) (event : Event) (time : ℤ)
+    → marked time ∷ [] ≡ marks_behind lag (event_times (arrivals_of lag records)) event.ts
     → ticks_of lag (records ++ Row event ∷ []) ≡ ticks_of lag records ++ ticks_of_arrival (arrivals_of lag records ++ arrived event ∷ []) (marked time)
 ticks_of-row_marked lag records event time one =
     ticks_of-row lag records event
@@ -140,13 +151,15 @@ ticks_of-row_marked lag records event time one =
 
 -- ---- marks that rise and marks that don't, and the end
 
-pub ticks_of_arrival-rising : (before : List Arrival) (time : ℤ) → rises before time ≡ true → ticks_of_arrival before (marked time) ≡ map event_tick (released before (At time)) ++ mark_tick (At time) ∷ []
+pub ticks_of_arrival-rising : (before : List Arrival) (time : ℤ) → rises before time ≡ true
+    → ticks_of_arrival before (marked time) ≡ map event_tick (released before (At time)) ++ mark_tick (At time) ∷ []
 ticks_of_arrival-rising before time up = ap (λ b. if b then ticks_of_mark before (At time) else []) up
 
 pub ticks_of_arrival-low : (before : List Arrival) (time : ℤ) → rises before time ≡ false → ticks_of_arrival before (marked time) ≡ []
 ticks_of_arrival-low before time low = ap (λ b. if b then ticks_of_mark before (At time) else []) low
 
-pub ticks_of_end_is : (lag : Option ℕ) (records : List LineRecord) → ticks_of_end lag records ≡ map event_tick (released (arrivals_of lag records) End) ++ mark_tick End ∷ []
+pub ticks_of_end_is : (lag : Option ℕ) (records : List LineRecord)
+    → ticks_of_end lag records ≡ map event_tick (released (arrivals_of lag records) End) ++ mark_tick End ∷ []
 unfolding ticks_of_end
 ticks_of_end_is lag records = refl
 

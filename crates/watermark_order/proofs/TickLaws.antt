@@ -41,14 +41,19 @@ module _ (P : Event → Type 0) where
   each-among (arrived event ∷ xs) ys h k = (h.0, each-among xs ys h.1 k)
   each-among (marked time ∷ xs) ys h k = each-among xs ys h k
 
-  each-arrived : (lag : Option ℕ) (earlier : List ℤ) (records : List LineRecord) → Each (OfEvent P) records → Each P (events_among (arrivals_after lag earlier records))
+  each-arrived : (lag : Option ℕ) (earlier : List ℤ) (records : List LineRecord) → Each (OfEvent P) records
+      → Each P (events_among (arrivals_after lag earlier records))
   each-arrived lag earlier [] h = tt
   each-arrived lag earlier (Blank ∷ records) h = each-arrived lag earlier records h.1
   each-arrived lag earlier (Mark time ∷ records) h = each-arrived lag earlier records h.1
-  each-arrived lag earlier (Row event ∷ records) h =
-      (h.0, each-among (marks_behind lag earlier event.ts) (arrivals_after lag (event.ts ∷ earlier) records) (no_events lag earlier event.ts) (each-arrived lag (event.ts ∷ earlier) records h.1))
+  each-arrived lag earlier (Row event ∷ records) h = (
+    h.0,
+    each-among (marks_behind lag earlier event.ts) (arrivals_after lag (event.ts ∷ earlier) records) (no_events lag earlier event.ts)
+        (each-arrived lag (event.ts ∷ earlier) records h.1),
+  )
 
-  -- What is said of the event of each record is said of each event that waits. So where the rows of the records so far are below that of the next, `arrive` may be called.
+  -- What is said of the event of each record is said of each event that waits. So where the rows of the records so far are below that of the next,
+  -- `arrive` may be called.
   pub each-record : (lag : Option ℕ) (records : List LineRecord) → Each (OfEvent P) records → Each P (order_of lag (arrivals_of lag records)).waiting
   each-record lag records h = each-waiting P lag (arrivals_of lag records) (each-arrived lag [] records h)
 
@@ -62,10 +67,12 @@ each-passing p (x ∷ xs) = chosen (p x) refl (each-passing p xs) where
   chosen false is rest = rest
 
 -- the mark has reached them, and no mark before has
-pub each-released : (arrivals : List Arrival) (mark : Moment) → Each (λ event. (has_reached mark event.ts && not (is_passed arrivals event)) ≡ true) (released arrivals mark)
+pub each-released : (arrivals : List Arrival) (mark : Moment)
+    → Each (λ event. (has_reached mark event.ts && not (is_passed arrivals event)) ≡ true) (released arrivals mark)
 unfolding released
 each-released arrivals mark =
-    each-order (λ event. (has_reached mark event.ts && not (is_passed arrivals event)) ≡ true) (filter (λ event. has_reached mark event.ts && not (is_passed arrivals event)) (events_among arrivals))
+    each-order (λ event. (has_reached mark event.ts && not (is_passed arrivals event)) ≡ true)
+    (filter (λ event. has_reached mark event.ts && not (is_passed arrivals event)) (events_among arrivals))
     (each-passing (λ event. has_reached mark event.ts && not (is_passed arrivals event)) (events_among arrivals))
 
 -- they are in the order of time and row
@@ -82,7 +89,8 @@ last_or-behind d (y ∷ xs) x = last_or-behind (Some y) xs x
 last_time-behind : (ticks more : List Tick) (tick : Tick) → last_time (ticks ++ (more ++ tick ∷ [])) ≡ Some (time_of tick)
 last_time-behind ticks more tick = ap last_time (sym (append_assoc ticks more (tick ∷ []))) ∙ ap (option_map time_of) (last_or-behind None (ticks ++ more) tick)
 
-last_time-arrival : (ticks : List Tick) (before : List Arrival) (next : Arrival) → last_time ticks ≡ greatest_mark before → last_time (ticks ++ ticks_of_arrival before next) ≡ greatest_mark (before ++ next ∷ [])
+last_time-arrival : (ticks : List Tick) (before : List Arrival) (next : Arrival) → last_time ticks ≡ greatest_mark before
+    → last_time (ticks ++ ticks_of_arrival before next) ≡ greatest_mark (before ++ next ∷ [])
 last_time-arrival ticks before (arrived event) is = ap last_time (append-nil ticks) ∙ is ∙ sym (same before) where
   same : (before : List Arrival) → greatest_mark (before ++ arrived event ∷ []) ≡ greatest_mark before
   same before = ap (λ marks. option_map At (greatest_of marks)) (no_mark before) where
@@ -91,14 +99,18 @@ last_time-arrival ticks before (arrived event) is = ap last_time (append-nil tic
     no_mark (arrived e ∷ before) = no_mark before
     no_mark (marked t ∷ before) = ap (λ l. t ∷ l) (no_mark before)
 last_time-arrival ticks before (marked time) is = by_test (rises before time) refl where
-  by_test : (b : Bool) → rises before time ≡ b → last_time (ticks ++ (if b then ticks_of_mark before (At time) else [])) ≡ greatest_mark (before ++ marked time ∷ [])
+  by_test : (b : Bool) → rises before time ≡ b
+      → last_time (ticks ++ (if b then ticks_of_mark before (At time) else [])) ≡ greatest_mark (before ++ marked time ∷ [])
   by_test true up =
       last_time-behind ticks (map event_tick (released before (At time))) (mark_tick (At time))
       ∙ sym (mark-marked before time ∙ ap (λ t. Some (At t)) (above-greater (greatest_of (marks_among before)) time (sym (rises_is before time) ∙ up)))
   by_test false low =
-      ap last_time (append-nil ticks) ∙ is ∙ sym (mark-marked before time ∙ ap (option_map At) (below-greater (greatest_of (marks_among before)) time (sym (rises_is before time) ∙ low)))
+      ap last_time (append-nil ticks) ∙ is
+      ∙ sym (mark-marked before time
+      ∙ ap (option_map At) (below-greater (greatest_of (marks_among before)) time (sym (rises_is before time) ∙ low)))
 
-last_time-from : (ticks : List Tick) (before arrivals : List Arrival) → last_time ticks ≡ greatest_mark before → last_time (ticks ++ ticks_after before arrivals) ≡ greatest_mark (before ++ arrivals)
+last_time-from : (ticks : List Tick) (before arrivals : List Arrival) → last_time ticks ≡ greatest_mark before
+    → last_time (ticks ++ ticks_after before arrivals) ≡ greatest_mark (before ++ arrivals)
 last_time-from ticks before [] is = ap last_time (append-nil ticks) ∙ is ∙ ap greatest_mark (sym (append-nil before))
 last_time-from ticks before (next ∷ arrivals) is =
     ap last_time (sym (append_assoc ticks (ticks_of_arrival before next) (ticks_after (before ++ next ∷ []) arrivals)))

@@ -1,4 +1,5 @@
--- The order of time: two lists of events that are in order, and in which those that tie stand alike, are one list. So sorting goes well with adding an event, with filtering, and with taking the first one out.
+-- The order of time: two lists of events that are in order, and in which those that tie stand alike, are one list. So sorting goes well with adding
+-- an event, with filtering, and with taking the first one out.
 use Rattle.std.proofs.Common.{◌≡◌, refl, sym, ◌∙◌, ap, inl, inr, ℕ, ◌<◌, arith, Bool, true, false, not, ◌&&◌, List, [], ◌∷◌, ◌++◌}
 use Rattle.std.specs.Prelude.{filter, if◌then◌else◌, ◌⊎◌}
 use Rattle.std.specs.Cmp.{IsTotalOrder, IsStrictWeakOrder, nat_cmp_total, int_cmp_total}
@@ -55,7 +56,9 @@ ties_none x z (w ∷ zs) h k = drops x w zs (above_unties x w (above w (is_soone
 none_at_first : (x z : Event) (zs : List Event) → is_sooner x z ≡ true → IsUpward (z ∷ zs) → filter (ties is_sooner x) (z ∷ zs) ≡ []
 none_at_first x z zs h up = drops x z zs (above_unties x z h) ∙ ties_none x z zs h up.0
 
-same_tail : (x y : Event) (ys zs : List Event) (b : Bool) → (if b then y ∷ filter (ties is_sooner x) ys else filter (ties is_sooner x) ys) ≡ (if b then y ∷ filter (ties is_sooner x) zs else filter (ties is_sooner x) zs) → filter (ties is_sooner x) ys ≡ filter (ties is_sooner x) zs
+same_tail : (x y : Event) (ys zs : List Event) (b : Bool)
+    → (if b then y ∷ filter (ties is_sooner x) ys else filter (ties is_sooner x) ys)
+    ≡ (if b then y ∷ filter (ties is_sooner x) zs else filter (ties is_sooner x) zs) → filter (ties is_sooner x) ys ≡ filter (ties is_sooner x) zs
 same_tail x y ys zs true h = cc
 same_tail x y ys zs false h = h
 
@@ -70,9 +73,12 @@ upward_unique (y ∷ ys) (z ∷ zs) s t h = by_first (is_sooner y z) (is_sooner 
   first : ties is_sooner y z ≡ true → y ≡ z
   first k = let heads : y ∷ filter (ties is_sooner y) ys ≡ z ∷ filter (ties is_sooner y) zs = sym (keeps y y ys (ties_itself y)) ∙ h y ∙ keeps y z zs k in cc
 
-  by_first : (b c : Bool) → is_sooner y z ≡ b → is_sooner z y ≡ c → (((x : Event) → filter (ties is_sooner x) ys ≡ filter (ties is_sooner x) zs) → ys ≡ zs) → y ∷ ys ≡ z ∷ zs
-  by_first true c below _ go = let no : y ∷ filter (ties is_sooner y) ys ≡ [] = sym (keeps y y ys (ties_itself y)) ∙ h y ∙ none_at_first y z zs below t in absurd cc
-  by_first false true _ above go = let no : z ∷ filter (ties is_sooner z) zs ≡ [] = sym (keeps z z zs (ties_itself z)) ∙ sym (h z) ∙ none_at_first z y ys above s in absurd cc
+  by_first : (b c : Bool) → is_sooner y z ≡ b → is_sooner z y ≡ c
+      → (((x : Event) → filter (ties is_sooner x) ys ≡ filter (ties is_sooner x) zs) → ys ≡ zs) → y ∷ ys ≡ z ∷ zs
+  by_first true c below _ go =
+      let no : y ∷ filter (ties is_sooner y) ys ≡ [] = sym (keeps y y ys (ties_itself y)) ∙ h y ∙ none_at_first y z zs below t in absurd cc
+  by_first false true _ above go =
+      let no : z ∷ filter (ties is_sooner z) zs ≡ [] = sym (keeps z z zs (ties_itself z)) ∙ sym (h z) ∙ none_at_first z y ys above s in absurd cc
   by_first false false nb na go = let e : y ≡ z = first (λ i. not (nb i) && not (na i)) in let rest : ys ≡ zs = go (tails e) in λ i. e i ∷ rest i
 
 pub put-each : (P : Event → Type 0) (event : Event) (events : List Event) → P event → Each P events → Each P (put_in_order event events)
@@ -82,14 +88,16 @@ put-each P event (first ∷ later) h k = chosen (is_sooner first event) (put-eac
   chosen true all = (k.0, all)
   chosen false all = (h, k)
 
-each-behind : (event first : Event) (later : List Event) → is_sooner first event ≡ false → Each (λ y. is_sooner y first ≡ false) later → Each (λ y. is_sooner y event ≡ false) later
+each-behind : (event first : Event) (later : List Event) → is_sooner first event ≡ false → Each (λ y. is_sooner y first ≡ false) later
+    → Each (λ y. is_sooner y event ≡ false) later
 each-behind event first [] h k = tt
 each-behind event first (y ∷ later) h k = (is_sooner-order.chain y first event k.0 h, each-behind event first later h k.1)
 
 pub put-upward : (event : Event) (events : List Event) → IsUpward events → IsUpward (put_in_order event events)
 put-upward event [] h = (tt, tt)
 put-upward event (first ∷ later) h = chosen (is_sooner first event) refl (put-upward event later h.1) where
-  chosen : (b : Bool) → is_sooner first event ≡ b → IsUpward (put_in_order event later) → IsUpward (if b then first ∷ put_in_order event later else event ∷ first ∷ later)
+  chosen : (b : Bool) → is_sooner first event ≡ b → IsUpward (put_in_order event later)
+      → IsUpward (if b then first ∷ put_in_order event later else event ∷ first ∷ later)
   chosen true is all = (put-each (λ y. is_sooner y first ≡ false) event later (is_sooner-order.one_way first event is) h.0, all)
   chosen false is all = ((is, each-behind event first later is h.0), h)
 
@@ -109,7 +117,8 @@ not_both x a b h p q =
       was_not false k = refl
 
 passed : (first event : Event) (rest : List Event) (f e : Bool) → ((f ≡ true) → (e ≡ true) → ⊥)
-    → (if f then first ∷ (if e then event ∷ rest else rest) else (if e then event ∷ rest else rest)) ≡ (if e then event ∷ (if f then first ∷ rest else rest) else (if f then first ∷ rest else rest))
+    → (if f then first ∷ (if e then event ∷ rest else rest) else (if e then event ∷ rest else rest))
+    ≡ (if e then event ∷ (if f then first ∷ rest else rest) else (if f then first ∷ rest else rest))
 passed first event rest true true apart = absurd (apart refl refl)
 passed first event rest true false apart = refl
 passed first event rest false true apart = refl
@@ -131,7 +140,8 @@ order-stable x (e ∷ events) = put-stable x e (in_time_order events) ∙ ap (λ
 
 -- ---- sorting depends on how those that tie stand, and on nothing else
 
-pub in_order_is : (events sorted : List Event) → IsUpward sorted → ((x : Event) → filter (tied x) sorted ≡ filter (tied x) events) → sorted ≡ in_time_order events
+pub in_order_is : (events sorted : List Event) → IsUpward sorted → ((x : Event) → filter (tied x) sorted ≡ filter (tied x) events)
+    → sorted ≡ in_time_order events
 in_order_is events sorted up alike = upward_unique sorted (in_time_order events) up (order-upward events) (λ x. alike x ∙ sym (order-stable x events))
 
 pub in_order_alike : (xs ys : List Event) → ((x : Event) → filter (tied x) xs ≡ filter (tied x) ys) → in_time_order xs ≡ in_time_order ys
@@ -146,7 +156,8 @@ each-order P (x ∷ xs) h = put-each P x (in_time_order xs) h.0 (each-order P xs
 each-from_put : (P : Event → Type 0) (event : Event) (events : List Event) → Each P (put_in_order event events) → P event × Each P events
 each-from_put P event [] h = (h.0, tt)
 each-from_put P event (first ∷ later) h = chosen (is_sooner first event) (each-from_put P event later) h where
-  chosen : (b : Bool) → (Each P (put_in_order event later) → P event × Each P later) → Each P (if b then first ∷ put_in_order event later else event ∷ first ∷ later) → P event × Each P (first ∷ later)
+  chosen : (b : Bool) → (Each P (put_in_order event later) → P event × Each P later)
+      → Each P (if b then first ∷ put_in_order event later else event ∷ first ∷ later) → P event × Each P (first ∷ later)
   chosen true go k = ((go k.1).0, (k.0, (go k.1).1))
   chosen false go k = (k.0, k.1)
 
@@ -194,7 +205,8 @@ none_pass x xs ys e false = e
 pub filter_both : {X : Type 0} (p q : X → Bool) (xs : List X) → filter p (filter q xs) ≡ filter (λ x. p x && q x) xs
 filter_both p q [] = refl
 filter_both p q (x ∷ xs) = chosen (q x) (filter_both p q xs) where
-  chosen : (b : Bool) → filter p (filter q xs) ≡ filter (λ y. p y && q y) xs → filter p (if b then x ∷ filter q xs else filter q xs) ≡ (if p x && b then x ∷ filter (λ y. p y && q y) xs else filter (λ y. p y && q y) xs)
+  chosen : (b : Bool) → filter p (filter q xs) ≡ filter (λ y. p y && q y) xs
+      → filter p (if b then x ∷ filter q xs else filter q xs) ≡ (if p x && b then x ∷ filter (λ y. p y && q y) xs else filter (λ y. p y && q y) xs)
   chosen true same = both_pass x (filter p (filter q xs)) (filter (λ y. p y && q y) xs) same (p x)
   chosen false same = none_pass x (filter p (filter q xs)) (filter (λ y. p y && q y) xs) same (p x)
 
@@ -245,13 +257,16 @@ middle x event (y ∷ xs) ys h =
     ap (λ rest. if tied x y then y ∷ rest else rest) (middle x event xs ys h.1)
     ∙ passed y event (filter (tied x) (xs ++ ys)) (tied x y) (tied x event) (apart_ties x y event h.0)
 
-pub order-behind : (event : Event) (xs ys : List Event) → Each (λ y. y.row < event.row) xs → in_time_order (xs ++ event ∷ ys) ≡ put_in_order event (in_time_order (xs ++ ys))
+pub order-behind : (event : Event) (xs ys : List Event) → Each (λ y. y.row < event.row) xs
+    → in_time_order (xs ++ event ∷ ys) ≡ put_in_order event (in_time_order (xs ++ ys))
 order-behind event xs ys h = in_order_alike (xs ++ event ∷ ys) (event ∷ xs ++ ys) (λ x. middle x event xs ys h)
 
-pub order-put : (event : Event) (xs ys : List Event) → Each (λ y. y.row < event.row) xs → in_time_order (xs ++ put_in_order event ys) ≡ put_in_order event (in_time_order (xs ++ ys))
+pub order-put : (event : Event) (xs ys : List Event) → Each (λ y. y.row < event.row) xs
+    → in_time_order (xs ++ put_in_order event ys) ≡ put_in_order event (in_time_order (xs ++ ys))
 order-put event xs ys h =
     in_order_alike (xs ++ put_in_order event ys) (xs ++ event ∷ ys)
-    (λ x. filter-append (tied x) xs (put_in_order event ys) ∙ ap (λ rest. filter (tied x) xs ++ rest) (put-stable x event ys) ∙ sym (filter-append (tied x) xs (event ∷ ys)))
+    (λ x. filter-append (tied x) xs (put_in_order event ys) ∙ ap (λ rest. filter (tied x) xs ++ rest) (put-stable x event ys)
+    ∙ sym (filter-append (tied x) xs (event ∷ ys)))
     ∙ order-behind event xs ys h
 
 -- ---- the first event
@@ -260,11 +275,13 @@ put-first : (event : Event) (events : List Event) → Each (λ y. is_sooner y ev
 put-first event [] h = refl
 put-first event (first ∷ later) h = ap (λ b. if b then first ∷ put_in_order event later else event ∷ first ∷ later) h.0
 
-pub order-first : (event : Event) (events : List Event) → Each (λ y. is_sooner y event ≡ false) events → in_time_order (event ∷ events) ≡ event ∷ in_time_order events
+pub order-first : (event : Event) (events : List Event) → Each (λ y. is_sooner y event ≡ false) events
+    → in_time_order (event ∷ events) ≡ event ∷ in_time_order events
 order-first event events h = put-first event (in_time_order events) (each-order (λ y. is_sooner y event ≡ false) events h)
 
 -- where an event is sooner than those before it, and none behind it is sooner, it is the first
-pub order-aside : (event : Event) (xs ys : List Event) → Each (λ x. is_sooner event x ≡ true) xs → Each (λ y. is_sooner y event ≡ false) ys → in_time_order (xs ++ event ∷ ys) ≡ event ∷ in_time_order (xs ++ ys)
+pub order-aside : (event : Event) (xs ys : List Event) → Each (λ x. is_sooner event x ≡ true) xs → Each (λ y. is_sooner y event ≡ false) ys
+    → in_time_order (xs ++ event ∷ ys) ≡ event ∷ in_time_order (xs ++ ys)
 order-aside event [] ys h k = order-first event ys k
 order-aside event (x ∷ xs) ys h k =
     ap (put_in_order x) (order-aside event xs ys h.1 k)

@@ -1,4 +1,5 @@
--- What an order of events is seen as, and for which arrivals it stands. Marks, late events and releases are as in the definitions of event time; the record is this project's own.
+-- What an order of events is seen as, and for which arrivals it stands. Marks, late events and releases are as in the definitions of event time; the
+-- record is this project's own.
 use Rattle.std.specs.Prelude.{◌≡◌, ℕ, ℤ, int_lt, not, if◌then◌else◌, List, [], ◌∷◌, map, filter, Option, Some, None, option_map}
 use Rattle.cep_event.specs.declared.event.Event.{Event}
 use Rattle.cep_event.specs.declared.record.Moment.{Moment}
@@ -6,7 +7,8 @@ use Rattle.cep_event.specs.declared.record.Moment.TheVariants.{At, End}
 use Rattle.watermark_order.specs.Reached.{is_reached}
 use Rattle.cep_plan.specs.EventTime.{Arrival, events_among, marks_among, greatest_from, lag_mark, is_passed, put_in_order, in_time_order}
 
--- The lag, the greatest mark so far (the end is above all others), the greatest time of all events so far, late ones too, and the events that wait for a mark, by time and then by row.
+-- The lag, the greatest mark so far (the end is above all others), the greatest time of all events so far, late ones too, and the events that wait
+-- for a mark, by time and then by row.
 pub record OrderState : Type 0 where
   pub lag : Option ℕ
   pub mark : Option Moment
@@ -77,7 +79,14 @@ ready order = filter (λ event. is_reached order.mark event.ts) order.waiting
 
 -- the order without them
 abbrev pub settled : OrderState → OrderState
-settled order = record { lag = order.lag; mark = order.mark; greatest = order.greatest; waiting = filter (λ event. not (is_reached order.mark event.ts)) order.waiting }
+settled order =
+    record {
+      lag = order.lag;
+      mark = order.mark;
+      greatest = order.greatest;
+      waiting =
+          filter (λ event. not (is_reached order.mark event.ts)) order.waiting;
+    }
 
 -- The order hands out these events, one after another, and then it is this one.
 pub record HandsOut (order : OrderState) (events : List Event) (after : OrderState) : Type 0 where

@@ -1,4 +1,5 @@
--- What the greatest mark so far says of a time. There may be no mark yet. That a mark has reached its own time, so that an event of this time is late, is this project's own rule.
+-- What the greatest mark so far says of a time. There may be no mark yet. That a mark has reached its own time, so that an event of this time is
+-- late, is this project's own rule.
 use Rattle.std.specs.Prelude.{ℤ, int_lt, Bool, true, false, Option, Some, None}
 use Rattle.cep_event.specs.declared.record.Moment.{Moment}
 use Rattle.cep_event.specs.declared.record.Moment.TheVariants.{At, End}

@@ -99,7 +99,8 @@ impl Order {
         ensures rises { (lag : Option ℕ) (arrivals : List Arrival) → self.old ≡ order_of lag arrivals → result ≡ rises arrivals time }
         ensures hands { (lag : Option ℕ) (arrivals : List Arrival) → self.old ≡ order_of lag arrivals
             → HandsOut self.new (if result then released arrivals (At time) else []) (order_of lag (arrivals ++ marked time ∷ [])) }
-        ensures stays { OnFalse result ((lag : Option ℕ) (arrivals : List Arrival) → self.old ≡ order_of lag arrivals → self.new ≡ order_of lag (arrivals ++ marked time ∷ [])) }
+        ensures stays { OnFalse result ((lag : Option ℕ) (arrivals : List Arrival) → self.old ≡ order_of lag arrivals
+            → self.new ≡ order_of lag (arrivals ++ marked time ∷ [])) }
         ensures by_mark { result ≡ is_above self.old.mark time }
         ensures state { self.new ≡ (if result then with_mark self.old (At time) else self.old) }
     {

@@ -1,5 +1,5 @@
 use Rattle.std.proofs.Common.{◌∙◌, sym}
-use Rattle.match_extract.proofs.PathLemmas.{Completes-more, height-falls, read_takes, one_path}
+use Rattle.match_extract.proofs.PathLaws.{Completes-more, height-falls, read_takes, one_path}
 use Rattle.match_extract.proofs.extract.Goals as goal
 
 pub loop-next-smaller : goal.loop-next-smaller

@@ -20,4 +20,5 @@ pub returns : goal.returns
 returns c = λ plan events starts fit is is_start stands.
     let shown = c.in_ok-tips.ensures.shown plan events starts [] fit is is_start stands.now.stands in
     let read = c.in_ok-lists.ensures plan events shown.holders (held_for stands.now.stands) (can_read_waiting plan events starts c.args.runs.now c.args.buffer.now stands c.args.start c.in_ok-tips.tips shown) in
-    ok_in_order c.in_order.result c.in_order.ensures.permutation c.in_order.ensures.sorted (λ made perm sorted. shown.lists made (subst (λ (xs : List (List Taken)). IsPermutation xs made) read perm) sorted)
+    ok_in_order c.in_order.result c.in_order.ensures.permutation c.in_order.ensures.sorted
+    (λ made perm sorted. shown.lists made (subst (λ (xs : List (List Taken)). IsPermutation xs made) read perm) sorted)

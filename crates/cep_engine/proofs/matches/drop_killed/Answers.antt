@@ -14,7 +14,15 @@ use Rattle.cep_engine.proofs.LoopLaws.{filter-more, filter_true, any_match, Each
 use Rattle.cep_engine.proofs.matches.drop_killed.Goals as goal
 
 pub loop-list-init : goal.loop-list-init
-loop-list-init c = ((λ small. λ i. record { within = c.args.limits.now.within; starts = sym (filter_true (λ (s : Start). not (list_any (λ list. kills_start c.args.skip list s.position) (take 0 c.as_slice-list-items.result.now))) c.args.limits.now.starts (λ s. refl)) i }), (λ position time h. h))
+loop-list-init c = (
+  (λ small. λ i. record {
+    within = c.args.limits.now.within;
+    starts =
+        sym (filter_true (λ (s : Start). not (list_any (λ list. kills_start c.args.skip list s.position) (take 0 c.as_slice-list-items.result.now)))
+        c.args.limits.now.starts (λ s. refl)) i;
+  }),
+  (λ position time h. h),
+)
 
 pub loop-list-preserved : goal.loop-list-preserved
 loop-list-preserved c =
@@ -27,15 +35,24 @@ loop-list-preserved c =
           let here = subst Small (sym c.list-item.is) (Each-get Small items place x c.loop-list-test.true all) in
           let before = c.loop-list.invariant.0 small in
           let more = filter-more (λ list (s : Start). kills_start c.args.skip list s.position) (λ s. is_in c.cut.result s.position) c.args.limits.now.starts items place x c.list-item.is c.loop-list-test.true (λ s. c.cut.ensures.positions here s.position) in
-          c.drop_starts.ensures ∙ (λ i. record { within = (before i).within; starts = (ap (λ k. filter (λ (s : Start). not (is_in c.cut.result s.position)) k.starts) before ∙ more) i })),
+          c.drop_starts.ensures
+          ∙ (λ i. record {
+            within = (before i).within;
+            starts =
+                (ap (λ k. filter (λ (s : Start). not (is_in c.cut.result s.position)) k.starts) before ∙ more) i;
+          })),
       (λ position time h.
           let Behind = λ (s : Start). (s.position < position) × (int_le s.ts time ≡ true) in
-          subst (λ k. Each Behind k.starts) (sym c.drop_starts.ensures) (Each-filter Behind (λ s. not (is_in c.cut.result s.position)) c.loop-list.limits.starts (c.loop-list.invariant.1 position time h))),
+          subst (λ k. Each Behind k.starts) (sym c.drop_starts.ensures)
+          (Each-filter Behind (λ s. not (is_in c.cut.result s.position)) c.loop-list.limits.starts (c.loop-list.invariant.1 position time h))),
     )
 
 pub returns-clause-left : goal.returns-clause-left
 returns-clause-left c = λ small.
     let items = c.as_slice-list-items.result.now in
     let test : (s : Start) → list_any (λ list. kills_start c.args.skip list s.position) (take c.loop-list.list-index items) ≡ list_any (item_kills_start c.args.skip s.position) (map Match c.args.found.now) =
-    λ s. ap (list_any (λ list. kills_start c.args.skip list s.position)) (take_all c.loop-list.list-index items (omega (arith, c.loop-list-test.false)) ∙ c.as_slice-list-items.ensures) ∙ sym (any_match (item_kills_start c.args.skip s.position) c.args.found.now) in
-    c.loop-list.invariant.0 small ∙ (λ i. record { within = c.args.limits.now.within; starts = filter (λ (s : Start). not (test s i)) c.args.limits.now.starts })
+    λ s. ap (list_any (λ list. kills_start c.args.skip list s.position))
+    (take_all c.loop-list.list-index items (omega (arith, c.loop-list-test.false)) ∙ c.as_slice-list-items.ensures)
+    ∙ sym (any_match (item_kills_start c.args.skip s.position) c.args.found.now) in
+    c.loop-list.invariant.0 small
+    ∙ (λ i. record { within = c.args.limits.now.within; starts = filter (λ (s : Start). not (test s i)) c.args.limits.now.starts })

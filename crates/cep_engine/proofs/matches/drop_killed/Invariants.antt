@@ -8,5 +8,11 @@ use Rattle.cep_engine.proofs.matches.drop_killed.Given as goal
 
 abbrev pub invariant-loop-list : goal.invariant-loop-list
 invariant-loop-list l =
-    (AreSmall l.found → l.limits ≡ record l.initial.limits { starts = filter (λ s. not (list_any (λ list. kills_start l.skip list s.position) (take l.list-index l.list-items))) l.initial.limits.starts })
-    × ((position : ℕ) (time : ℤ) → Each (λ s. (s.position < position) × (int_le s.ts time ≡ true)) l.initial.limits.starts → Each (λ s. (s.position < position) × (int_le s.ts time ≡ true)) l.limits.starts)
+    (AreSmall l.found
+    → l.limits
+    ≡ record l.initial.limits {
+      starts =
+          filter (λ s. not (list_any (λ list. kills_start l.skip list s.position) (take l.list-index l.list-items))) l.initial.limits.starts;
+    })
+    × ((position : ℕ) (time : ℤ) → Each (λ s. (s.position < position) × (int_le s.ts time ≡ true)) l.initial.limits.starts
+    → Each (λ s. (s.position < position) × (int_le s.ts time ≡ true)) l.limits.starts)

@@ -33,8 +33,12 @@ loop-list-preserved-in-Continue-1 c = λ small.
           let lives : is_killed c.args.skip (map Match found) list ≡ false = killed_below c.args.skip found c.loop-list.reach list known.3 (StartBefore-next found list c.next.new.self.rest.items behind) ∙ sym c.starts_below.ensures ∙ (search rules) in (
             ap (map Match) pushed ∙ kept_after-kept c.args.skip found c.loop-list.yielded list known.0 lives,
             later.1,
-            subst (λ f. StartBefore f c.next.new.self.rest.items) (sym pushed) (Each-push (λ m. Each (StartsNoLater m) c.next.new.self.rest.items) found list (StartBefore-rest found list c.next.new.self.rest.items behind) later.0),
-            subst (λ f. KillBelow c.args.skip f c.farther-reach.result) (sym pushed) (subst (KillBelow c.args.skip (found ++ list ∷ [])) (sym c.farther-reach.ensures) (KillBelow-more c.args.skip found c.loop-list.reach list c.cut.result known.3 (c.cut.ensures.positions both.0) c.cut.ensures.from)),
+            subst (λ f. StartBefore f c.next.new.self.rest.items) (sym pushed)
+                (Each-push (λ m. Each (StartsNoLater m) c.next.new.self.rest.items) found list
+                (StartBefore-rest found list c.next.new.self.rest.items behind) later.0),
+            subst (λ f. KillBelow c.args.skip f c.farther-reach.result) (sym pushed)
+                (subst (KillBelow c.args.skip (found ++ list ∷ [])) (sym c.farther-reach.ensures)
+                (KillBelow-more c.args.skip found c.loop-list.reach list c.cut.result known.3 (c.cut.ensures.positions both.0) c.cut.ensures.from)),
           ),
     )
 
@@ -50,6 +54,11 @@ loop-list-preserved c = λ small.
       λ order.
           let known = before.2 order in
           let behind = subst (StartBefore found) rest known.2 in
-          let dies : is_killed c.args.skip (map Match found) list ≡ true = killed_below c.args.skip found c.loop-list.reach list known.3 (StartBefore-next found list c.next.new.self.rest.items behind) ∙ sym c.starts_below.ensures ∙ (search rules) in
-          (kept_after-killed c.args.skip found c.loop-list.yielded list known.0 dies, (subst AreInStartOrder rest known.1).1, StartBefore-rest found list c.next.new.self.rest.items behind, known.3),
+          let dies : is_killed c.args.skip (map Match found) list ≡ true = killed_below c.args.skip found c.loop-list.reach list known.3 (StartBefore-next found list c.next.new.self.rest.items behind) ∙ sym c.starts_below.ensures ∙ (search rules) in (
+            kept_after-killed c.args.skip found c.loop-list.yielded list known.0 dies,
+            (subst AreInStartOrder rest known.1).1,
+            StartBefore-rest found
+                list c.next.new.self.rest.items behind,
+            known.3,
+          ),
     )

@@ -10,4 +10,5 @@ use Rattle.cep_engine.proofs.matches.kept_matches.Given as goal
 abbrev pub invariant-loop-list : goal.invariant-loop-list
 invariant-loop-list l =
     AreSmall l.fn.lists → AreSmall l.found × AreSmall l.list-iterator.rest.items
-    × (AreInStartOrder l.fn.lists → (map Match l.found ≡ kept_after l.skip [] (map Match l.yielded)) × AreInStartOrder l.list-iterator.rest.items × StartBefore l.found l.list-iterator.rest.items × KillBelow l.skip l.found l.reach)
+    × (AreInStartOrder l.fn.lists → (map Match l.found ≡ kept_after l.skip [] (map Match l.yielded)) × AreInStartOrder l.list-iterator.rest.items
+    × StartBefore l.found l.list-iterator.rest.items × KillBelow l.skip l.found l.reach)

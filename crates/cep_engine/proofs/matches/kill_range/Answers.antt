@@ -9,9 +9,12 @@ kill-requires c = can_kill c.args.runs.now c.args.buffer.now c.requires
 
 pub returns-in-None-clause-runs : goal.returns-in-None-clause-runs
 returns-in-None-clause-runs c = λ plan events starts stands.
-    RunsStand-same plan events starts (λ p. starts p && not (is_in c.args.range p)) c.args.runs.now c.args.buffer.now (λ p. sym (and_true (starts p)) ∙ ap (λ r. starts p && not (is_in r p)) (sym c.in-None.is)) stands
+    RunsStand-same plan events starts (λ p. starts p && not (is_in c.args.range p)) c.args.runs.now c.args.buffer.now
+    (λ p. sym (and_true (starts p)) ∙ ap (λ r. starts p && not (is_in r p)) (sym c.in-None.is)) stands
 
 pub returns-in-Some-clause-runs : goal.returns-in-Some-clause-runs
 returns-in-Some-clause-runs c = λ plan events starts stands.
-    RunsStand-same plan events _ (λ p. starts p && not (is_in c.args.range p)) c.kill.new.runs c.kill.new.buffer (λ p. ap (λ r. starts p && not (is_in r p)) (sym c.in-Some.is))
-    (RunsStand-killed plan events starts _ c.args.runs.now c.kill.new.runs c.args.buffer.now c.kill.new.buffer (c.kill.ensures.now plan events starts []) c.kill.ensures.pins stands)
+    RunsStand-same plan events _ (λ p. starts p && not (is_in c.args.range p)) c.kill.new.runs c.kill.new.buffer
+    (λ p. ap (λ r. starts p && not (is_in r p)) (sym c.in-Some.is))
+    (RunsStand-killed plan events starts _ c.args.runs.now c.kill.new.runs c.args.buffer.now c.kill.new.buffer
+    (c.kill.ensures.now plan events starts []) c.kill.ensures.pins stands)

@@ -13,7 +13,12 @@ use Rattle.cep_engine.proofs.RunningLaws.{RunsStand-same, killed_some}
 use Rattle.cep_engine.proofs.matches.kill_runs.Goals as goal
 
 pub loop-list-init : goal.loop-list-init
-loop-list-init c = ((λ small plan events starts stands. RunsStand-same plan events starts _ c.args.runs.now c.args.buffer.now (λ p. sym (and_true (starts p))) stands), refl, c.requires)
+loop-list-init c = (
+  (λ small plan events starts stands. RunsStand-same plan events starts _ c.args.runs.now c.args.buffer.now (λ p. sym (and_true (starts p)))
+      stands),
+  refl,
+  c.requires,
+)
 
 pub loop-list-preserved : goal.loop-list-preserved
 loop-list-preserved c =
@@ -24,7 +29,8 @@ loop-list-preserved c =
       (λ small plan events starts stands.
           let all = subst AreSmall (sym c.as_slice-list-items.ensures) small in
           let here = subst Small (sym c.list-item.is) (Each-get Small items place x c.loop-list-test.true all) in
-          RunsStand-more (λ list p. kills_start c.args.skip list p) plan events starts (is_in c.cut.result) c.kill_range.new.runs c.kill_range.new.buffer items place x c.list-item.is c.loop-list-test.true (c.cut.ensures.positions here)
+          RunsStand-more (λ list p. kills_start c.args.skip list p) plan events starts (is_in c.cut.result) c.kill_range.new.runs
+          c.kill_range.new.buffer items place x c.list-item.is c.loop-list-test.true (c.cut.ensures.positions here)
           (c.kill_range.ensures.runs plan events _ (c.loop-list.invariant.0 small plan events starts stands))),
       c.kill_range.ensures.position ∙ c.loop-list.invariant.1,
       killed_some c.loop-list.invariant.2 (c.kill_range.ensures.runs _ _ _ c.loop-list.invariant.2.stands),
@@ -33,6 +39,10 @@ loop-list-preserved c =
 pub returns-clause-runs : goal.returns-clause-runs
 returns-clause-runs c = λ small plan events starts stands.
     let items = c.as_slice-list-items.result.now in
-    RunsStand-same plan events _ (λ p. starts p && not (list_any (item_kills_start c.args.skip p) (map Match c.args.found.now))) c.loop-list.runs c.loop-list.buffer
-    (λ p. ap (λ b. starts p && not b) (ap (list_any (λ list. kills_start c.args.skip list p)) (take_all c.loop-list.list-index items (omega (arith, c.loop-list-test.false)) ∙ c.as_slice-list-items.ensures) ∙ sym (any_match (item_kills_start c.args.skip p) c.args.found.now)))
+    RunsStand-same plan events _ (λ p. starts p && not (list_any (item_kills_start c.args.skip p) (map Match c.args.found.now))) c.loop-list.runs
+    c.loop-list.buffer
+    (λ p. ap (λ b. starts p
+    && not b) (ap (list_any (λ list. kills_start c.args.skip list p))
+    (take_all c.loop-list.list-index items (omega (arith, c.loop-list-test.false)) ∙ c.as_slice-list-items.ensures)
+    ∙ sym (any_match (item_kills_start c.args.skip p) c.args.found.now)))
     (c.loop-list.invariant.0 small plan events starts stands)

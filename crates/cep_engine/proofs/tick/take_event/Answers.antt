@@ -33,11 +33,15 @@ IsBehind position time start = (start.position < position) × (int_le start.ts t
 not_above : (time : ℤ) → int_le time time ≡ true
 not_above time = grind (arith, ints)
 
-left_behind : (position : ℕ) (time : ℤ) (saved left : Kept) (now : Moment) → left ≡ record saved { starts = left_among saved.within now saved.starts } → Each (IsBehind position time) saved.starts → Each (IsBehind position time) left.starts
+left_behind : (position : ℕ) (time : ℤ) (saved left : Kept) (now : Moment)
+    → left ≡ record saved { starts = left_among saved.within now saved.starts } → Each (IsBehind position time) saved.starts
+    → Each (IsBehind position time) left.starts
 left_behind position time saved left now is h =
     subst (λ k. Each (IsBehind position time) k.starts) (sym is) (Each-filter (IsBehind position time) (λ s. not (is_over saved.within now s)) saved.starts h)
 
-added_behind : (position : ℕ) (time : ℤ) (left added : Kept) → added ≡ record left { starts = left.starts ++ limited left.within (record { position = position; ts = time } ∷ []) } → Each (IsBehind position time) left.starts → Each (IsBehind (position + 1) time) added.starts
+added_behind : (position : ℕ) (time : ℤ) (left added : Kept)
+    → added ≡ record left { starts = left.starts ++ limited left.within (record { position = position; ts = time } ∷ []) }
+    → Each (IsBehind position time) left.starts → Each (IsBehind (position + 1) time) added.starts
 added_behind position time left added is h =
     subst (λ k. Each (IsBehind (position + 1) time) k.starts) (sym is)
     (Each-append (IsBehind (position + 1) time) left.starts (limited left.within (record { position = position; ts = time } ∷ []))
@@ -45,13 +49,18 @@ added_behind position time left added is h =
     (limited-each (IsBehind (position + 1) time) left.within (record { position = position; ts = time } ∷ []) ((omega arith, not_above time), tt)))
 
 -- after the timeouts the runs stand for the starts that are open at the event
-event_ready : (plan : Plan) (ticks : List Tick) (content : Content) (buffer : BufferContent) (saved : Kept) (parts : PartsStand plan ticks content buffer saved) (event : Event) (later : ComesLater ticks (At event.ts)) (limit : IfSome plan.within (λ w. 0 < w))
+event_ready :
+    (plan : Plan) (ticks : List Tick) (content : Content) (buffer : BufferContent) (saved : Kept)
+    (parts : PartsStand plan ticks content buffer saved) (event : Event) (later : ComesLater ticks (At event.ts))
+    (limit : IfSome plan.within (λ w. 0 < w))
     (time : ℤ) → time ≡ event.ts → (after : Content) (after_buffer : BufferContent)
-    → RunsStand plan (events_of ticks) (λ p. open_after plan ticks p && not (list_any (λ s. s == p) (due_among saved.within (At time) saved.starts))) after after_buffer
+    → RunsStand plan (events_of ticks) (λ p. open_after plan ticks p && not (list_any (λ s. s == p) (due_among saved.within (At time) saved.starts)))
+    after after_buffer
     → RunsStand plan (events_of ticks) (open_starts plan (events_of ticks ++ event ∷ []) (kept_of plan ticks) (Some (At event.ts))) after after_buffer
 event_ready plan ticks content buffer saved parts event later limit time trip after after_buffer stands =
     runs_ready plan ticks content buffer saved parts event later limit after after_buffer
-    (subst (λ (t : ℤ). RunsStand plan (events_of ticks) (λ p. open_after plan ticks p && not (list_any (λ s. s == p) (due_among saved.within (At t) saved.starts))) after after_buffer) trip stands)
+    (subst (λ (t : ℤ). RunsStand plan (events_of ticks)
+    (λ p. open_after plan ticks p && not (list_any (λ s. s == p) (due_among saved.within (At t) saved.starts))) after after_buffer) trip stands)
 
 pub time_out-requires-clause-open : goal.time_out-requires-clause-open
 time_out-requires-clause-open c =
@@ -69,7 +78,9 @@ advance-requires-clause-stands c =
       events = events_of some.ticks;
       starts = open_starts plan (events_of some.ticks ++ event ∷ []) (kept_of plan some.ticks) (Some (At event.ts));
       fresh = is_open plan some.ticks c.args.runs.now c.args.buffer.now c.args.limits.now some.parts event some.later c.requires.within;
-      stands = event_ready plan some.ticks c.args.runs.now c.args.buffer.now c.args.limits.now some.parts event some.later c.requires.within _ trip c.time_out.new.runs c.time_out.new.buffer
+      stands =
+          event_ready plan some.ticks c.args.runs.now c.args.buffer.now c.args.limits.now some.parts event some.later c.requires.within _ trip
+          c.time_out.new.runs c.time_out.new.buffer
           (c.in_ok-items.ensures.runs plan (events_of some.ticks) (open_after plan some.ticks) some.parts.runs);
     }
 
@@ -91,7 +102,8 @@ add-requires c =
     let fits : FitsSigned w64 event.ts = search rules in
     let trip : to_z w64 (of_z w64 event.ts) ≡ event.ts = to_z-of_z w64 event.ts fits in
     let all = left_behind c.args.runs.now.position event.ts c.args.limits.now c.time_out.new.limits (At (to_z w64 (of_z w64 event.ts))) c.in_ok-items.ensures.limits c.requires.behind in
-    subst (λ t. Each (IsBehind c.position-position.result t) c.time_out.new.limits.starts) (sym trip) (subst (λ n. Each (IsBehind n event.ts) c.time_out.new.limits.starts) (sym c.position-position.ensures) all)
+    subst (λ t. Each (IsBehind c.position-position.result t) c.time_out.new.limits.starts) (sym trip)
+    (subst (λ n. Each (IsBehind n event.ts) c.time_out.new.limits.starts) (sym c.position-position.ensures) all)
 
 pub returns-clause-items : goal.returns-clause-items
 returns-clause-items c = λ ticks parts later.
@@ -109,9 +121,11 @@ returns-clause-items c = λ ticks parts later.
     let small = matches_small plan ticks content buffer saved parts event later limit c.in_ok-lists.lists advanced.matches room in
     let order = subst AreInStartOrder (sym advanced.matches) (matches_in_order plan (events_of ticks) event _) in
     let timeouts = c.in_ok-items.ensures.items plan (events_of ticks) (open_after plan ticks) c.requires.plan c.requires.nfa (saved_open plan ticks content buffer saved parts) parts.runs
-    ∙ ap (λ (t : ℤ). map (λ list. Timeout (taken_of (events_of ticks) list)) (flat_map (waiting_at plan (events_of ticks)) (due_among saved.within (At t) saved.starts))) trip in
+    ∙ ap (λ (t : ℤ). map (λ list. Timeout (taken_of (events_of ticks) list))
+    (flat_map (waiting_at plan (events_of ticks)) (due_among saved.within (At t) saved.starts))) trip in
     c.in_ok-add_matches.ensures ∙ (λ i. timeouts i ++ map Match c.in_ok-found.found)
-    ∙ kept_at-event plan ticks content buffer saved parts event later limit c.in_ok-lists.lists advanced.matches c.in_ok-found.found (c.in_ok-found.ensures.chosen small order)
+    ∙ kept_at-event plan ticks content buffer saved parts event later limit c.in_ok-lists.lists advanced.matches c.in_ok-found.found
+    (c.in_ok-found.ensures.chosen small order)
 
 pub returns-clause-parts : goal.returns-clause-parts
 returns-clause-parts c = λ ticks parts later.
@@ -132,10 +146,21 @@ returns-clause-parts c = λ ticks parts later.
     let at : c.position-position.result ≡ length (events_of ticks) = c.position-position.ensures ∙ parts.runs.now.stands.counted in
     let left : c.time_out.new.limits ≡ record { within = saved.within; starts = left_among saved.within (At event.ts) saved.starts } = c.in_ok-items.ensures.limits ∙ ap (λ (t : ℤ). record saved { starts = left_among saved.within (At t) saved.starts }) trip in
     let added : c.add.new.self ≡ record { within = saved.within; starts = left_among saved.within (At event.ts) saved.starts ++ limited saved.within (record { position = length (events_of ticks); ts = event.ts } ∷ []) } =
-    c.in_ok-add.ensures.ok ∙ (λ i. record { within = (left i).within; starts = (left i).starts ++ limited (left i).within (record { position = at i; ts = trip i } ∷ []) }) in
-    PartsStand-event plan ticks content buffer saved parts event later limit c.in_ok-lists.lists advanced.matches c.in_ok-found.found (c.in_ok-found.ensures.chosen small order) c.kill_runs.new.runs c.kill_runs.new.buffer c.drop_killed.new.limits
+    c.in_ok-add.ensures.ok
+    ∙ (λ i. record {
+      within = (left i).within;
+      starts =
+          (left i).starts ++ limited (left i).within (record { position = at i; ts = trip i } ∷ []);
+    }) in
+    PartsStand-event plan ticks content buffer saved parts event later limit c.in_ok-lists.lists advanced.matches c.in_ok-found.found
+    (c.in_ok-found.ensures.chosen small order) c.kill_runs.new.runs c.kill_runs.new.buffer c.drop_killed.new.limits
     (c.kill_runs.ensures.runs found_small plan _ _ advanced.stands)
-    (c.drop_killed.ensures.left found_small ∙ (λ i. record { within = (added i).within; starts = filter (λ (s : Start). not (list_any (item_kills_start plan.skip s.position) (map Match c.in_ok-found.found))) (added i).starts }))
+    (c.drop_killed.ensures.left found_small
+    ∙ (λ i. record {
+      within = (added i).within;
+      starts =
+          filter (λ (s : Start). not (list_any (item_kills_start plan.skip s.position) (map Match c.in_ok-found.found))) (added i).starts;
+    }))
 
 pub returns-clause-behind : goal.returns-clause-behind
 returns-clause-behind c =
@@ -145,6 +170,12 @@ returns-clause-behind c =
     let before = c.args.runs.now.position in
     let all = left_behind before event.ts c.args.limits.now c.time_out.new.limits (At (to_z w64 (of_z w64 event.ts))) c.in_ok-items.ensures.limits c.requires.behind in
     let added : c.add.new.self ≡ record c.time_out.new.limits { starts = c.time_out.new.limits.starts ++ limited c.time_out.new.limits.within (record { position = before; ts = event.ts } ∷ []) } =
-    c.in_ok-add.ensures.ok ∙ (λ i. record c.time_out.new.limits { starts = c.time_out.new.limits.starts ++ limited c.time_out.new.limits.within (record { position = c.position-position.ensures i; ts = trip i } ∷ []) }) in
+    c.in_ok-add.ensures.ok
+    ∙ (λ i. record c.time_out.new.limits {
+      starts =
+          c.time_out.new.limits.starts
+          ++ limited c.time_out.new.limits.within (record { position = c.position-position.ensures i; ts = trip i } ∷ []);
+    }) in
     let next : c.kill_runs.new.runs.position ≡ before + 1 = omega (arith, c.kill_runs.ensures.position, c.in_ok-lists.ensures.position, c.in_ok-items.ensures.position) in
-    subst (λ n. Each (IsBehind n event.ts) c.drop_killed.new.limits.starts) (sym next) (c.drop_killed.ensures.behind (before + 1) event.ts (added_behind before event.ts c.time_out.new.limits c.add.new.self added all))
+    subst (λ n. Each (IsBehind n event.ts) c.drop_killed.new.limits.starts) (sym next)
+    (c.drop_killed.ensures.behind (before + 1) event.ts (added_behind before event.ts c.time_out.new.limits c.add.new.self added all))

@@ -16,7 +16,8 @@ time_out-requires-clause-open c =
 
 pub returns-clause-items : goal.returns-clause-items
 returns-clause-items c = λ plan ticks fit is parts.
-    c.in_ok-items.ensures.items plan (events_of ticks) (open_after plan ticks) fit is (saved_open plan ticks c.args.runs.now c.args.buffer.now c.args.limits.now parts) parts.runs
+    c.in_ok-items.ensures.items plan (events_of ticks) (open_after plan ticks) fit is
+    (saved_open plan ticks c.args.runs.now c.args.buffer.now c.args.limits.now parts) parts.runs
     ∙ kept_at-mark plan ticks c.args.runs.now c.args.buffer.now c.args.limits.now parts c.args.now
 
 pub returns-clause-parts : goal.returns-clause-parts
@@ -30,4 +31,5 @@ returns-clause-behind c = λ time h.
     let limits = c.args.limits.now in
     subst (λ n. Each (λ (s : Start). (s.position < n) × (int_le s.ts time ≡ true)) c.time_out.new.limits.starts) (sym c.in_ok-items.ensures.position)
     (subst (λ k. Each (λ (s : Start). (s.position < c.args.runs.now.position) × (int_le s.ts time ≡ true)) k.starts) (sym c.in_ok-items.ensures.limits)
-    (Each-filter (λ (s : Start). (s.position < c.args.runs.now.position) × (int_le s.ts time ≡ true)) (λ s. not (is_over limits.within c.args.now s)) limits.starts h))
+    (Each-filter (λ (s : Start). (s.position < c.args.runs.now.position) × (int_le s.ts time ≡ true)) (λ s. not (is_over limits.within c.args.now s))
+    limits.starts h))

@@ -23,7 +23,8 @@ loop-start-preserved c =
     let same_due : due_among limits.within c.args.now (without_first_over limits.within c.args.now limits.starts) ≡ rest = sym (ap (λ k. due_among k.within c.args.now k.starts) c.next_due.ensures.left) in
     let same_left : left_among limits.within c.args.now (without_first_over limits.within c.args.now limits.starts) ≡ left_among next.within c.args.now next.starts = sym (ap (λ k. left_among k.within c.args.now k.starts) c.next_due.ensures.left) in
     let pushed : c.push.new.self ≡ c.loop-start.due ++ start ∷ [] = c.in_ok-push.ensures.ok in (
-      c.loop-start.invariant.0 ∙ ap (λ r. c.loop-start.due ++ r) (due_among-next limits.within c.args.now limits.starts start found ∙ ap (λ r. start ∷ r) same_due)
+      c.loop-start.invariant.0
+          ∙ ap (λ r. c.loop-start.due ++ r) (due_among-next limits.within c.args.now limits.starts start found ∙ ap (λ r. start ∷ r) same_due)
           ∙ sym (append_assoc c.loop-start.due (start ∷ []) rest) ∙ ap (λ d. d ++ rest) (sym pushed),
       c.loop-start.invariant.1 ∙ left_among-next limits.within c.args.now limits.starts ∙ same_left,
       ap (λ k. k.within) c.next_due.ensures.left ∙ c.loop-start.invariant.2,
@@ -33,7 +34,8 @@ pub returns-clause-due : goal.returns-clause-due
 returns-clause-due c =
     let limits = c.loop-start.limits in
     let none : first_over limits.within c.args.now limits.starts ≡ None = search rules in
-    sym (c.loop-start.invariant.0 ∙ ap (λ r. c.loop-start.due ++ r) (due_among-done limits.within c.args.now limits.starts none).0 ∙ append-nil c.loop-start.due)
+    sym (c.loop-start.invariant.0 ∙ ap (λ r. c.loop-start.due ++ r) (due_among-done limits.within c.args.now limits.starts none).0
+    ∙ append-nil c.loop-start.due)
 
 pub returns-clause-left : goal.returns-clause-left
 returns-clause-left c =

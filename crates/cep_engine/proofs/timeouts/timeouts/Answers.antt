@@ -37,10 +37,12 @@ loop-start-preserved c = λ plan events starts fit is due_open stands.
     c.in_ok-add_timeouts.ensures
     ∙ (λ i. c.loop-start.invariant plan events starts fit is due_open stands i ++ map Timeout (lists i))
     ∙ ap (λ r. map told so_far ++ r) (map-map Timeout (taken_of events) (waiting_at plan events x))
-    ∙ sym (ap (λ ps. map told (flat_map (waiting_at plan events) ps)) (take_more items place 0 c.loop-start-test.true) ∙ ap (map told) (flat_map-push (waiting_at plan events) (take place items) x) ∙ map-joined told so_far (waiting_at plan events x))
+    ∙ sym (ap (λ ps. map told (flat_map (waiting_at plan events) ps)) (take_more items place 0 c.loop-start-test.true)
+    ∙ ap (map told) (flat_map-push (waiting_at plan events) (take place items) x) ∙ map-joined told so_far (waiting_at plan events x))
 
 pub returns : goal.returns
 returns c = λ plan events starts fit is due_open stands.
     let items = c.as_slice-start-items.result.now in
     c.loop-start.invariant plan events starts fit is due_open stands
-    ∙ ap (λ ps. map (λ list. Timeout (taken_of events list)) (flat_map (waiting_at plan events) ps)) (take_all c.loop-start.start-index items (omega (arith, c.loop-start-test.false)) ∙ c.as_slice-start-items.ensures)
+    ∙ ap (λ ps. map (λ list. Timeout (taken_of events list)) (flat_map (waiting_at plan events) ps))
+    (take_all c.loop-start.start-index items (omega (arith, c.loop-start-test.false)) ∙ c.as_slice-start-items.ensures)

@@ -14,5 +14,6 @@ use Rattle.cep_engine.proofs.timeouts.timeouts.Given as goal
 
 abbrev pub invariant-loop-start : goal.invariant-loop-start
 invariant-loop-start l =
-    (plan : Plan) (events : List Event) (starts : ℕ → Bool) → IsCompilable plan → l.nfa ≡ automaton_of plan → Each (λ s. starts s ≡ true) l.due → RunsStand plan events starts l.runs l.buffer
+    (plan : Plan) (events : List Event) (starts : ℕ → Bool) → IsCompilable plan → l.nfa ≡ automaton_of plan → Each (λ s. starts s ≡ true) l.due
+    → RunsStand plan events starts l.runs l.buffer
     → l.items ≡ map (λ list. Timeout (taken_of events list)) (flat_map (waiting_at plan events) (take l.start-index l.start-items))

@@ -8,4 +8,5 @@ use Rattle.cep_engine.specs.Tips.{AreHeldTips}
 use Rattle.cep_engine.proofs.tips.read_lists.Given as goal
 
 abbrev pub invariant-loop-tip : goal.invariant-loop-tip
-invariant-loop-tip l = (plan : Plan) (events : List Event) (holders : List Holder) (held : Holds) → AreHeldTips plan events holders held l.tips l.buffer → l.lists ≡ map (λ holder. taken_of events holder.list) (take l.tip-index holders)
+invariant-loop-tip l = (plan : Plan) (events : List Event) (holders : List Holder) (held : Holds)
+    → AreHeldTips plan events holders held l.tips l.buffer → l.lists ≡ map (λ holder. taken_of events holder.list) (take l.tip-index holders)

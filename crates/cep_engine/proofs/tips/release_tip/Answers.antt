@@ -9,7 +9,8 @@ release-requires c =
 
 pub returns-clause-held : goal.returns-clause-held
 returns-clause-held c = λ plan events holder held is.
-    tip_released plan events holder held c.args.tip.now c.args.buffer.now c.facts.ensures is _ c.release.ensures.consistent c.release.ensures.exact c.release.ensures.events
+    tip_released plan events holder held c.args.tip.now c.args.buffer.now c.facts.ensures is _ c.release.ensures.consistent c.release.ensures.exact
+    c.release.ensures.events
 
 pub returns-clause-pins : goal.returns-clause-pins
 returns-clause-pins c = KeepsPins-released c.args.buffer.now _ c.release.ensures.events

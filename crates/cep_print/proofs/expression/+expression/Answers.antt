@@ -25,14 +25,18 @@ put_expression-returns-in-Mul t c =
 pub put_expression-returns-in_ok-push_str-in-Not : goal.put_expression-returns-in_ok-push_str-in-Not
 put_expression-returns-in_ok-push_str-in-Not t c =
     let law = text-Not c.args.expr.now.node c.in-Not.x c.get-in-Not.result.now c.in-Not.is c.get-in-Not.ensures in
-    subst (λ z. OnOk c.put_operand-in-Not.result (string_bytes c.put_operand-in-Not.new.out ≡ z)) (behind_one _ _ _ _ _ c.in_ok-push_str-in-Not.ensures.bytes law) c.put_operand-in-Not.ensures
+    subst (λ z. OnOk c.put_operand-in-Not.result (string_bytes c.put_operand-in-Not.new.out ≡ z))
+    (behind_one _ _ _ _ _ c.in_ok-push_str-in-Not.ensures.bytes law) c.put_operand-in-Not.ensures
 
 pub put_expression-returns-in_ok-push_str-in-Neg : goal.put_expression-returns-in_ok-push_str-in-Neg
 put_expression-returns-in_ok-push_str-in-Neg t c =
     let law = text-Neg c.args.expr.now.node c.in-Neg.x c.get-in-Neg.result.now c.in-Neg.is c.get-in-Neg.ensures in
-    subst (λ z. OnOk c.put_operand-in-Neg.result (string_bytes c.put_operand-in-Neg.new.out ≡ z)) (behind_one _ _ _ _ _ c.in_ok-push_str-in-Neg.ensures.bytes law) c.put_operand-in-Neg.ensures
+    subst (λ z. OnOk c.put_operand-in-Neg.result (string_bytes c.put_operand-in-Neg.new.out ≡ z))
+    (behind_one _ _ _ _ _ c.in_ok-push_str-in-Neg.ensures.bytes law) c.put_operand-in-Neg.ensures
 
 pub put_expression-returns-in_ok-push_str-in-Compare : goal.put_expression-returns-in_ok-push_str-in-Compare
 put_expression-returns-in_ok-push_str-in-Compare t c =
     let law = text-Compare c.args.expr.now.node c.in-Compare.cmp c.in-Compare.x c.in-Compare.y c.get.result.now c.get-in-Compare.result.now c.in-Compare.is c.get.ensures c.get-in-Compare.ensures in
-    subst (λ z. OnOk c.put_operand-in-Compare.result (string_bytes c.put_operand-in-Compare.new.out ≡ z)) (behind_two _ _ _ _ _ _ _ _ c.in_ok-put_operand-in-Compare.ensures c.in_ok-push_str-in-Compare.ensures.bytes c.cmp_text.ensures law) c.put_operand-in-Compare.ensures
+    subst (λ z. OnOk c.put_operand-in-Compare.result (string_bytes c.put_operand-in-Compare.new.out ≡ z))
+    (behind_two _ _ _ _ _ _ _ _ c.in_ok-put_operand-in-Compare.ensures c.in_ok-push_str-in-Compare.ensures.bytes c.cmp_text.ensures law)
+    c.put_operand-in-Compare.ensures

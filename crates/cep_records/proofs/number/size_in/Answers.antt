@@ -16,7 +16,8 @@ returns-then-digit-lt48-clause-value c =
     elim c.then-digit-lt48.branch [
       | then-digit-lt48-via-then-digit-lt48 w ↦ sym (size_in-other text i (omega arith) (below-digit _ w.if-digit-lt48.true))
       | then-digit-lt48-via-else-digit-lt48+then-digit-gt57 w ↦ sym (size_in-other text i (omega arith) (above-digit _ w.if-digit-gt57.true))
-      | then-digit-lt48-via-else-digit-lt48+else-digit-gt57+then-size-gt-FULL w ↦ sym (size_in-full text i (omega arith) (omega (arith, c.loop-digit.invariant.size, w.if-size-gt-FULL.true)))
+      | then-digit-lt48-via-else-digit-lt48+else-digit-gt57+then-size-gt-FULL w ↦
+          sym (size_in-full text i (omega arith) (omega (arith, c.loop-digit.invariant.size, w.if-size-gt-FULL.true)))
     ]
 
 pub loop-digit-preserved : goal.loop-digit-preserved
@@ -43,4 +44,6 @@ returns-else-size-gt-FURTHEST-clause-value c =
     let all = take_all c.loop-digit.digit-index text (omega arith) in
     let size = c.loop-digit.invariant.size ∙ ap (digits_value 10) all in
     let digits = rw all at c.loop-digit.invariant.digits in
-    ap Some size ∙ sym (size_in-is text (is-some (length text) (sym c.is_empty.ensures ∙ c.if-is_empty.false)) digits (omega (arith, size, c.if-size-gt-FURTHEST.false)))
+    ap Some size
+    ∙ sym (size_in-is text (is-some (length text) (sym c.is_empty.ensures ∙ c.if-is_empty.false)) digits
+    (omega (arith, size, c.if-size-gt-FURTHEST.false)))

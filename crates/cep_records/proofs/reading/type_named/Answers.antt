@@ -6,7 +6,8 @@ use Rattle.cep_records.proofs.reading.type_named.Goals as goal
 pub loop-place-preserved : goal.loop-place-preserved
 loop-place-preserved c =
     let is : false ≡ bytes_eq c.index-types-place.result.name c.args.name.now = cc in
-    below_more _ _ c.loop-place.invariant (named c.args.types.now c.loop-place.place c.index-types-place.result c.args.name.now false (omega arith) c.index-types-place.is is)
+    below_more _ _ c.loop-place.invariant (named c.args.types.now c.loop-place.place c.index-types-place.result c.args.name.now false (omega arith)
+    c.index-types-place.is is)
 
 pub returns-then-eq-clause-value : goal.returns-then-eq-clause-value
 returns-then-eq-clause-value c =

@@ -6,4 +6,5 @@ loop-byte-init c = escaped-none c.args.text.now
 
 pub loop-byte-preserved : goal.loop-byte-preserved
 loop-byte-preserved c =
-    escaped-more c.args.text.now c.loop-byte.text c.push_byte.new.text c.args.bytes.now c.loop-byte.byte-index c.loop-byte-test.true c.loop-byte.invariant c.in_ok-push_byte.ensures
+    escaped-more c.args.text.now c.loop-byte.text c.push_byte.new.text c.args.bytes.now c.loop-byte.byte-index c.loop-byte-test.true
+    c.loop-byte.invariant c.in_ok-push_byte.ensures

@@ -17,7 +17,8 @@ loop-taken-preserved c =
     elim c.if-taken-stage.branch [
       | then-taken-stage+in_ok-push_row w ↦
           let e = entry-yes c.args.text.now c.loop-taken.text w.push_row.new.text c.args.name.now c.args.stage c.loop-taken.taken-index c.args.list.now t c.loop-taken.behind c.args.quoted
-          (omega arith) c.taken-item.is (same t.stage c.args.stage w.if-taken-stage.true) c.loop-taken.invariant.0 c.loop-taken.invariant.1 w.in_ok-push_row.ensures in
+          (omega arith) c.taken-item.is (same t.stage c.args.stage w.if-taken-stage.true) c.loop-taken.invariant.0 c.loop-taken.invariant.1
+          w.in_ok-push_row.ensures in
           (w.text-is ∙ e.0, w.behind-is ∙ e.1)
       | else-taken-stage w ↦
           let e = entry-no c.args.text.now c.loop-taken.text c.args.name.now c.args.stage c.loop-taken.taken-index c.args.list.now t c.loop-taken.behind c.args.quoted

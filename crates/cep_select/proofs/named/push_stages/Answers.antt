@@ -13,4 +13,6 @@ pub loop-number-preserved : goal.loop-number-preserved
 loop-number-preserved c =
     stage-more c.args.text.now c.loop-number.text c.push_stage.new.text c.loop-number.number c.args.stages.now c.index-stages-number.result c.args.list.now
     c.loop-number-test.true c.index-stages-number.is c.loop-number.invariant
-    (c.in_ok-push_stage.ensures ∙ ap (λ (name : List ℕ). c.loop-number.text ++ fields_text default_writer (named_rows name (taken_for c.loop-number.number c.args.list.now))) (c.as_bytes.ensures.value ∙ c.as_str.ensures))
+    (c.in_ok-push_stage.ensures
+    ∙ ap (λ (name : List ℕ). c.loop-number.text ++ fields_text default_writer (named_rows name (taken_for c.loop-number.number c.args.list.now)))
+    (c.as_bytes.ensures.value ∙ c.as_str.ensures))

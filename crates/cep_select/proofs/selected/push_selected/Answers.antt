@@ -15,6 +15,7 @@ pub loop-expr-preserved : goal.loop-expr-preserved
 loop-expr-preserved c =
     let list = ap (λ (x : Listed). x.list) c.new-taken.ensures in
     let value = c.value_in.ensures ∙ ap (λ (l : List Taken). value_of c.args.plan.now.types None l c.expr-item.result) list in
-    selected-more c.args.text.now c.loop-expr.text c.push_value.new.text c.args.plan.now.types c.args.list.now c.args.exprs.now c.loop-expr.expr-index c.expr-item.result
+    selected-more c.args.text.now c.loop-expr.text c.push_value.new.text c.args.plan.now.types c.args.list.now c.args.exprs.now
+    c.loop-expr.expr-index c.expr-item.result
     c.loop-expr-test.true c.expr-item.is c.loop-expr.invariant
     (c.in_ok-push_value.ensures ∙ ap (λ (a : Answer). c.loop-expr.text ++ next_field (answer_text a)) value)

@@ -18,7 +18,9 @@ pub returns-in_err-expect_symbol : goal.returns-in_err-expect_symbol
 returns-in_err-expect_symbol c =
     let sees : next_is (symbol (codes ".")) c.loop-turn.cursor ≡ true = first_of (cc, grind (arith, common_steps)) in
     let fails : (why : Stop) (rest : Left) → sign (codes ".") c.loop-turn.cursor ≡ Err (why, rest) → chain c.args.room (started c.args.name) c.args.cursor.now ≡ Err (why, rest)
-    = λ why rest h. sym c.loop-turn.invariant ∙ chain_no_dot c.args.room c.loop-turn._turn c.loop-turn.building c.loop-turn.cursor c.loop-turn.cursor c.loop-turn-test.true sees why rest h in
+    = λ why rest h. sym c.loop-turn.invariant
+    ∙ chain_no_dot c.args.room c.loop-turn._turn c.loop-turn.building c.loop-turn.cursor c.loop-turn.cursor c.loop-turn-test.true sees why rest h
+    in
     first_of (search (rules, fails), grind (arith, common_steps, fails))
 
 pub returns-in_err-limit : goal.returns-in_err-limit
@@ -27,7 +29,9 @@ returns-in_err-limit c =
     let dot : sign (codes ".") c.loop-turn.cursor ≡ Ok (tt, c.expect_symbol.new.self) = first_of (search rules, grind (arith, common_steps)) in
     let within : next_is (word (codes "within")) c.expect_symbol.new.self ≡ true = first_of (cc, grind (arith, common_steps)) in
     let fails : (why : Stop) (rest : Left) → time_limit c.expect_symbol.new.self ≡ Err (why, rest) → chain c.args.room (started c.args.name) c.args.cursor.now ≡ Err (why, rest)
-    = λ why rest h. sym c.loop-turn.invariant ∙ chain_no_limit c.args.room c.loop-turn._turn c.loop-turn.building c.loop-turn.cursor c.expect_symbol.new.self c.loop-turn-test.true sees dot why rest within h in
+    = λ why rest h. sym c.loop-turn.invariant
+    ∙ chain_no_limit c.args.room c.loop-turn._turn c.loop-turn.building c.loop-turn.cursor c.expect_symbol.new.self c.loop-turn-test.true sees
+    dot why rest within h in
     first_of (search (rules, fails), grind (arith, common_steps, fails))
 
 pub returns-then-sees_word : goal.returns-then-sees_word
@@ -35,7 +39,9 @@ returns-then-sees_word c =
     let sees : next_is (symbol (codes ".")) c.loop-turn.cursor ≡ true = first_of (cc, grind (arith, common_steps)) in
     let dot : sign (codes ".") c.loop-turn.cursor ≡ Ok (tt, c.expect_symbol.new.self) = first_of (search rules, grind (arith, common_steps)) in
     let within : next_is (word (codes "within")) c.expect_symbol.new.self ≡ true = first_of (cc, grind (arith, common_steps)) in
-    sym c.loop-turn.invariant ∙ chain_limit c.args.room c.loop-turn._turn c.loop-turn.building c.loop-turn.cursor c.expect_symbol.new.self c.loop-turn-test.true sees dot c.in_ok-limit.limit c.time_limit.new.cursor within (search rules)
+    sym c.loop-turn.invariant
+    ∙ chain_limit c.args.room c.loop-turn._turn c.loop-turn.building c.loop-turn.cursor c.expect_symbol.new.self c.loop-turn-test.true sees dot
+    c.in_ok-limit.limit c.time_limit.new.cursor within (search rules)
 
 pub returns-in_err-link : goal.returns-in_err-link
 returns-in_err-link c =
@@ -43,7 +49,9 @@ returns-in_err-link c =
     let dot : sign (codes ".") c.loop-turn.cursor ≡ Ok (tt, c.expect_symbol.new.self) = first_of (search rules, grind (arith, common_steps)) in
     let within : next_is (word (codes "within")) c.expect_symbol.new.self ≡ false = first_of (cc, grind (arith, common_steps)) in
     let fails : (why : Stop) (rest : Left) → any_link c.args.room c.loop-turn.building.fresh c.expect_symbol.new.self ≡ Err (why, rest) → chain c.args.room (started c.args.name) c.args.cursor.now ≡ Err (why, rest)
-    = λ why rest h. sym c.loop-turn.invariant ∙ chain_no_link c.args.room c.loop-turn._turn c.loop-turn.building c.loop-turn.cursor c.expect_symbol.new.self c.loop-turn-test.true sees dot why rest within h in
+    = λ why rest h. sym c.loop-turn.invariant
+    ∙ chain_no_link c.args.room c.loop-turn._turn c.loop-turn.building c.loop-turn.cursor c.expect_symbol.new.self c.loop-turn-test.true sees dot
+    why rest within h in
     first_of (search (rules, fails), grind (arith, common_steps, fails))
 
 pub loop-turn-preserved : goal.loop-turn-preserved
@@ -55,4 +63,5 @@ loop-turn-preserved c =
     rw c.in_ok-building.ensures (sym step ∙ c.loop-turn.invariant)
 
 pub returns : goal.returns
-returns c = λ some. sym c.loop-turn.invariant ∙ chain_spent c.args.room c.loop-turn._turn c.loop-turn.building c.loop-turn.cursor c.loop-turn.cursor c.loop-turn-test.false
+returns c = λ some. sym c.loop-turn.invariant
+    ∙ chain_spent c.args.room c.loop-turn._turn c.loop-turn.building c.loop-turn.cursor c.loop-turn.cursor c.loop-turn-test.false

@@ -23,7 +23,8 @@ returns-else-is_empty-clause-read c =
     let n = length c.args.tokens.now + 1 in
     let enough : length ts < n = omega (arith, length-map c.args.tokens.now (lexeme_of c.args.source.now)) in
     let some : c.file.new.cursor ≢ [] = first_of (search rules, grind (arith, common_steps)) in
-    rw c.fault_of.ensures (answers_behind n ts enough c.in-Ok.file c.file.new.cursor (length c.args.source.now) some (sym (ap (file n) c.new-cursor.ensures) ∙ c.in-Ok.ensures))
+    rw c.fault_of.ensures (answers_behind n ts enough c.in-Ok.file c.file.new.cursor (length c.args.source.now) some
+    (sym (ap (file n) c.new-cursor.ensures) ∙ c.in-Ok.ensures))
 
 pub returns-in-Err-clause-read : goal.returns-in-Err-clause-read
 returns-in-Err-clause-read c =
@@ -31,7 +32,8 @@ returns-in-Err-clause-read c =
     let n = length c.args.tokens.now + 1 in
     let enough : length ts < n = omega (arith, length-map c.args.tokens.now (lexeme_of c.args.source.now)) in
     rw c.fault_of-in-Err.ensures
-    (answers_stop n ts enough c.in-Err.stop c.file.new.cursor (length c.args.source.now) (λ some. sym (ap (file n) c.new-cursor.ensures) ∙ c.in-Err.ensures some))
+    (answers_stop n ts enough c.in-Err.stop c.file.new.cursor (length c.args.source.now)
+    (λ some. sym (ap (file n) c.new-cursor.ensures) ∙ c.in-Err.ensures some))
 
 pub returns-then-is_empty-clause-formed : goal.returns-then-is_empty-clause-formed
 returns-then-is_empty-clause-formed c =

@@ -36,10 +36,13 @@ loop-place-preserved c =
     let place = c.loop-place.place in
     let token : Token = record { kind = c.in-Token.kind; start = place; end = place + c.in-Token.len } in
     record {
-      so_far = rw c.in_ok-push-in-Token.ensures.ok (keeps_token text found place c.in-Token.len c.in-Token.kind _ i.so_far c.in-Token.ensures.value c.in-Token.ensures.within);
+      so_far =
+          rw c.in_ok-push-in-Token.ensures.ok (keeps_token text found place c.in-Token.len c.in-Token.kind _ i.so_far c.in-Token.ensures.value
+          c.in-Token.ensures.within);
       in_text = stays_within text found place c.in-Token.len i.in_text c.in-Token.ensures.within.1;
       within = rw c.in_ok-push-in-Token.ensures.ok
-          (All-push (IsWithin text) found token i.within (is_within text found place c.in-Token.len c.in-Token.kind i.in_text c.in-Token.ensures.value c.in-Token.ensures.within));
+          (All-push (IsWithin text) found token i.within
+          (is_within text found place c.in-Token.len c.in-Token.kind i.in_text c.in-Token.ensures.value c.in-Token.ensures.within));
       order = rw c.in_ok-push-in-Token.ensures.ok (in_order-push 0 found token i.order i.last);
       last = rw c.in_ok-push-in-Token.ensures.ok (rw (end_of-push 0 found token) (omega arith));
     }

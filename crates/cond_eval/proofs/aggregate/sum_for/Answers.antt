@@ -16,4 +16,5 @@ loop-taken-preserved c =
 pub returns : goal.returns
 returns c =
     c.in_word.ensures
-    ∙ ap in_word (c.loop-taken.invariant.summed ∙ summed-all c.args.types.now c.args.stage c.args.field c.args.list.now c.loop-taken.taken-index c.loop-taken-test.false)
+    ∙ ap in_word (c.loop-taken.invariant.summed
+    ∙ summed-all c.args.types.now c.args.stage c.args.field c.args.list.now c.loop-taken.taken-index c.loop-taken-test.false)

@@ -70,27 +70,32 @@ value-value-requires-in-Neg g t c κs within =
 pub value-returns-in-Any : goal.value-returns-in-Any
 value-returns-in-Any g t c list stands =
     ap truth (c.any_true.ensures list stands)
-    ∙ value-Any c.args.plan.now.types (option_copied c.args.event) list c.args.expr.now c.in-Any.parts c.as_slice-in-Any.result.now c.in-Any.is c.as_slice-in-Any.ensures
+    ∙ value-Any c.args.plan.now.types (option_copied c.args.event) list c.args.expr.now c.in-Any.parts c.as_slice-in-Any.result.now c.in-Any.is
+    c.as_slice-in-Any.ensures
 
 pub value-returns-in-All : goal.value-returns-in-All
 value-returns-in-All g t c list stands =
     ap truth (c.all_true.ensures list stands)
-    ∙ value-All c.args.plan.now.types (option_copied c.args.event) list c.args.expr.now c.in-All.parts c.as_slice-in-All.result.now c.in-All.is c.as_slice-in-All.ensures
+    ∙ value-All c.args.plan.now.types (option_copied c.args.event) list c.args.expr.now c.in-All.parts c.as_slice-in-All.result.now c.in-All.is
+    c.as_slice-in-All.ensures
 
 pub value-returns-in-Add : goal.value-returns-in-Add
 value-returns-in-Add g t c list stands =
     c.sum.ensures list stands
-    ∙ value-Add c.args.plan.now.types (option_copied c.args.event) list c.args.expr.now c.in-Add.terms c.as_slice-in-Add.result.now c.in-Add.is c.as_slice-in-Add.ensures
+    ∙ value-Add c.args.plan.now.types (option_copied c.args.event) list c.args.expr.now c.in-Add.terms c.as_slice-in-Add.result.now c.in-Add.is
+    c.as_slice-in-Add.ensures
 
 pub value-returns-in-Mul : goal.value-returns-in-Mul
 value-returns-in-Mul g t c list stands =
     c.product.ensures list stands
-    ∙ value-Mul c.args.plan.now.types (option_copied c.args.event) list c.args.expr.now c.in-Mul.factors c.as_slice-in-Mul.result.now c.in-Mul.is c.as_slice-in-Mul.ensures
+    ∙ value-Mul c.args.plan.now.types (option_copied c.args.event) list c.args.expr.now c.in-Mul.factors c.as_slice-in-Mul.result.now c.in-Mul.is
+    c.as_slice-in-Mul.ensures
 
 pub value-returns-in-Compare : goal.value-returns-in-Compare
 value-returns-in-Compare g t c list stands =
     ap truth (c.compared.ensures ∙ (λ i. compared c.in-Compare.cmp (c.value-x.ensures list stands i) (c.value-y.ensures list stands i)))
-    ∙ value-Compare c.args.plan.now.types (option_copied c.args.event) list c.args.expr.now c.in-Compare.cmp c.in-Compare.x c.in-Compare.y c.get.result.now c.get-in-Compare.result.now c.in-Compare.is c.get.ensures c.get-in-Compare.ensures
+    ∙ value-Compare c.args.plan.now.types (option_copied c.args.event) list c.args.expr.now c.in-Compare.cmp c.in-Compare.x c.in-Compare.y
+    c.get.result.now c.get-in-Compare.result.now c.in-Compare.is c.get.ensures c.get-in-Compare.ensures
 
 pub value-returns-in-Not : goal.value-returns-in-Not
 value-returns-in-Not g t c list stands =

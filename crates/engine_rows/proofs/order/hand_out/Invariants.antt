@@ -6,7 +6,9 @@ use Rattle.engine_rows.proofs.order.hand_out.Given as goal
 abbrev pub invariant-loop-event : goal.invariant-loop-event
 invariant-loop-event l =
     record {
-      rows : l.told.items ++ map (λ event. told_of.Row event.row) (ready l.order) ≡ l.initial.told.items ++ map (λ event. told_of.Row event.row) (ready l.initial.order);
+      rows :
+          l.told.items ++ map (λ event. told_of.Row event.row) (ready l.order) ≡ l.initial.told.items
+          ++ map (λ event. told_of.Row event.row) (ready l.initial.order);
       order : settled l.order ≡ settled l.initial.order;
     }
 

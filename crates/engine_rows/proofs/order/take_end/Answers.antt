@@ -7,4 +7,5 @@ use Rattle.engine_rows.proofs.order.take_end.Goals as goal
 pub returns : goal.returns
 returns c = λ n rows.
     subst (λ o. AllByRecursion (λ (event : Event). event.row < n) o.waiting) (sym c.in_ok-hand_out.ensures.order)
-    (each-settled (λ event. event.row < n) c.end.new.self (subst (λ o. AllByRecursion (λ (event : Event). event.row < n) o.waiting) (sym c.end.ensures.state) rows))
+    (each-settled (λ event. event.row < n) c.end.new.self
+    (subst (λ o. AllByRecursion (λ (event : Event). event.row < n) o.waiting) (sym c.end.ensures.state) rows))

@@ -1,7 +1,4 @@
-use Rattle.std.proofs.Common.{sym, ◌∙◌, ap, subst, map, Option, Some, None}
-use Rattle.std.specs.Option.{option_to_list}
-use Rattle.event_pipeline.specs.Telling.{Tells}
-use Rattle.event_pipeline.specs.Told.{late_told}
+use Rattle.std.proofs.Common.{sym, ◌∙◌}
 use Rattle.event_pipeline.specs.Ticks.{told_late}
 use Rattle.event_pipeline.proofs.TellLaws.{late-told, not-late, cut-first}
 use Rattle.event_pipeline.proofs.ticks.arrive.Goals as goal

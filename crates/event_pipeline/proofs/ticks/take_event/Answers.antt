@@ -1,16 +1,19 @@
-use Rattle.std.proofs.Common.{◌≡◌, sym, ◌∙◌, ap, subst, ◌≤◌, length, ◌∷◌, []}
+use Rattle.std.proofs.Common.{◌++◌, refl, sym, ◌∙◌, ap, subst, ◌≤◌, length, ◌∷◌, []}
 use Rattle.std.specs.Prelude.{All, ◌<◌, ◌^◌, Err}
 use Rattle.std.proofs.lemmas.Result.{err_from_is_err_and}
 use Rattle.cep_plan.specs.declared.plan.Plan.{Plan}
 use Rattle.cep_plan.specs.Skipping.{list_in}
 use Rattle.cep_plan.specs.Tick.{event_tick}
 use Rattle.event_pipeline.specs.declared.outputs.TellFault.TheVariants.{NoMemory}
+use Rattle.sharing_laws.specs.Sizes.{sizes_after, sizes_from}
+use Rattle.event_pipeline.specs.Shown.{Shows}
 use Rattle.event_pipeline.proofs.ShortLaws.{event-short}
+use Rattle.event_pipeline.proofs.ShownLaws.{shows-none}
 use Rattle.event_pipeline.proofs.TickLaws.{takes-one, takes-none, same-fault}
 use Rattle.event_pipeline.proofs.ticks.take_event.Goals as goal
 
 pub tick_taken-requires-clause-few : goal.tick_taken-requires-clause-few
-tick_taken-requires-clause-few g c = subst (λ (p : Plan). length p.stages ≤ 65536) (sym (c.plan.ensures ∙ c.event_items.ensures.plan)) c.requires.ready.few
+tick_taken-requires-clause-few g c = subst (λ (p : Plan). length p.stages ≤ 65536) (sym c.event_items.ensures.plan) c.requires.ready.few
 
 pub tick_taken-requires-clause-short : goal.tick_taken-requires-clause-short
 tick_taken-requires-clause-short g c =
@@ -21,11 +24,24 @@ tick_taken-requires-clause-short g c =
 pub returns-clause-taken : goal.returns-clause-taken
 returns-clause-taken g c = λ ticks stands.
     let taken = c.in_ok-items.ensures.taken ticks stands in
-    takes-one g.O.Outputs.tells g.O.Outputs.stops c.plan.result.now c.args.engine.now.plan ticks (event_tick c.args.event) c.event_items.new.engine (c.args.outputs.now, c.args.to.now) (c.tick_taken.new.outputs, c.tick_taken.new.to)
-    c.in_ok-items.items c.tick_taken.result (c.plan.ensures ∙ c.event_items.ensures.plan) taken.0 taken.1 c.tick_taken.ensures
+    takes-one g.O.Outputs.tells g.O.Outputs.stops c.event_items.new.engine.plan c.args.engine.now.plan ticks (event_tick c.args.event) c.event_items.new.engine
+    (c.args.outputs.now, c.args.to.now) (c.tick_taken.new.outputs, c.tick_taken.new.to)
+    c.in_ok-items.items c.tick_taken.result c.event_items.ensures.plan taken.0 taken.1 c.tick_taken.ensures.told
 
 pub returns-in_err-items-clause-taken : goal.returns-in_err-items-clause-taken
 returns-in_err-items-clause-taken g c = λ ticks stands.
     let p = err_from_is_err_and c.from_residual.result c.from_residual.ensures.1 in
     takes-none (g.O.Outputs.tells c.args.engine.now.plan) (g.O.Outputs.stops c.args.engine.now.plan) c.args.engine.now.plan ticks (event_tick c.args.event ∷ []) c.event_items.new.engine (c.args.outputs.now, c.args.to.now) c.from_residual.result
     (p.1 ∙ ap (λ e. Err e) (p.2 ∙ same-fault c.in_err-items.field-0.0 NoMemory c.in_err-items.ensures.fault))
+
+pub returns-clause-shown : goal.returns-clause-shown
+returns-clause-shown g c = λ ticks stands.
+    let taken = c.in_ok-items.ensures.taken ticks stands in
+    subst (λ (p : Plan). Shows (g.G.Gauge.seen c.args.gauge.now) (g.G.Gauge.seen c.tick_taken.new.gauge)
+    (sizes_after p (ticks ++ event_tick c.args.event ∷ []) ∷ []) c.tick_taken.result) c.event_items.ensures.plan
+    (c.tick_taken.ensures.shown (ticks ++ event_tick c.args.event ∷ []) taken.0)
+
+pub returns-in_err-items-clause-shown : goal.returns-in_err-items-clause-shown
+returns-in_err-items-clause-shown g c = λ ticks stands.
+    let p = err_from_is_err_and c.from_residual.result c.from_residual.ensures.1 in
+    shows-none _ _ (sizes_from c.args.engine.now.plan ticks (event_tick c.args.event ∷ [])) p.0 c.from_residual.result refl p.1

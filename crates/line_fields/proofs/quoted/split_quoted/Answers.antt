@@ -18,7 +18,9 @@ loop-place-preserved c =
     elim c.if-matches.branch [
       | then-matches+in_ok-push w ↦ elim c.match-matches.branch [
         | in-StartField v ↦ record {
-          reads = rw (w.ends-is, w.in_ok-push.ensures.ok) (reads-comma line places place c.loop-place.state c.in-Some.next c.loop-place-test.true v.in-StartField.is told c.loop-place.invariant.reads);
+          reads =
+              rw (w.ends-is, w.in_ok-push.ensures.ok) (reads-comma line places place c.loop-place.state c.in-Some.next c.loop-place-test.true
+              v.in-StartField.is told c.loop-place.invariant.reads);
           within = rw (w.ends-is, w.in_ok-push.ensures.ok) (within-comma 0 places place c.loop-place.invariant.within);
         }
         | in_default v ↦ cc (v.matches-is, w.if-matches.true)
@@ -26,7 +28,9 @@ loop-place-preserved c =
       | else-matches w ↦ elim c.match-matches.branch [
         | in-StartField v ↦ cc (v.matches-is, w.if-matches.false)
         | in_default v ↦ record {
-          reads = rw w.ends-is (reads-more line places place c.loop-place.state c.in-Some.next c.loop-place-test.true c.loop-place.invariant.within told v.in_default.not-StartField c.loop-place.invariant.reads);
+          reads =
+              rw w.ends-is (reads-more line places place c.loop-place.state c.in-Some.next c.loop-place-test.true c.loop-place.invariant.within told
+              v.in_default.not-StartField c.loop-place.invariant.reads);
           within = rw w.ends-is (within-more 0 places place c.loop-place.invariant.within);
         }
       ]
@@ -36,5 +40,6 @@ pub returns-clause-read : goal.returns-clause-read
 returns-clause-read c = λ t. elim c.match-matches-2.branch [
   | in-InQuoted v ↦ cc (v.matches-is, c.if-matches-2.false)
   | in_default-matches v ↦
-      rw c.in_ok-push-2.ensures.ok (reads-end c.args.line.now c.loop-place.ends.items c.loop-place.place c.loop-place.state (omega arith) v.in_default-matches.not-InQuoted c.loop-place.invariant.reads)
+      rw c.in_ok-push-2.ensures.ok (reads-end c.args.line.now c.loop-place.ends.items c.loop-place.place c.loop-place.state (omega arith)
+      v.in_default-matches.not-InQuoted c.loop-place.invariant.reads)
 ]

@@ -17,14 +17,18 @@ loop-place-preserved c = elim c.match-byte.branch [
       let comma : (get_or c.args.line.now c.loop-place.place 0 == 44) ≡ true = rw w.in-44.is refl in
       record {
         plain = grind (arith, common_steps);
-        cut = rw (w.ends-is, pushed) (cut-comma c.loop-place.ends.items c.args.line.now c.loop-place.place c.loop-place-test.true comma c.loop-place.invariant.cut);
+        cut =
+            rw (w.ends-is, pushed) (cut-comma c.loop-place.ends.items c.args.line.now c.loop-place.place c.loop-place-test.true comma
+            c.loop-place.invariant.cut);
         within = rw (w.ends-is, pushed) (within-comma 0 c.loop-place.ends.items c.loop-place.place c.loop-place.invariant.within);
       }
   | in_default w ↦
       let other : (get_or c.args.line.now c.loop-place.place 0 == 44) ≡ false = ne_eqb _ _ (λ e. omega (arith, e)) in
       record {
         plain = grind (arith, common_steps);
-        cut = rw w.ends-is (cut-other c.loop-place.ends.items c.args.line.now c.loop-place.place c.loop-place-test.true other c.loop-place.invariant.within c.loop-place.invariant.cut);
+        cut =
+            rw w.ends-is (cut-other c.loop-place.ends.items c.args.line.now c.loop-place.place c.loop-place-test.true other
+            c.loop-place.invariant.within c.loop-place.invariant.cut);
         within = rw w.ends-is (within-more 0 c.loop-place.ends.items c.loop-place.place c.loop-place.invariant.within);
       }
 ]

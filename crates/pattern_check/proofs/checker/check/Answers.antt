@@ -55,7 +55,8 @@ returns-clause-numbered c =
     let same : c.in_ok-fields.fields ≡ known_fields c.args.file.now.types = first_of (cc, grind (arith, common_steps)) in
     let kept : fault_with c.in_ok-fields.fields c.args.file.now ≡ None = first_of (cc, grind (arith, common_steps)) in
     let sound = subst (λ (fields : List Field). fault_with fields c.args.file.now ≡ None) same kept in
-    subst HasNumberedFields (sym (c.in_ok-plan-in-None.ensures ∙ ap (λ fields. plan_with fields c.args.file.now) same)) (plan_numbered c.args.file.now c.requires sound)
+    subst HasNumberedFields (sym (c.in_ok-plan-in-None.ensures ∙ ap (λ fields. plan_with fields c.args.file.now) same))
+    (plan_numbered c.args.file.now c.requires sound)
 
 pub returns-clause-sorted : goal.returns-clause-sorted
 returns-clause-sorted c =

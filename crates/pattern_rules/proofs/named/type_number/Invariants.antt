@@ -4,4 +4,5 @@ use Rattle.std.specs.Str.{bytes_eq}
 use Rattle.pattern_rules.proofs.named.type_number.Given as goal
 
 abbrev pub invariant-loop-number : goal.invariant-loop-number
-invariant-loop-number l = l.number + position_or_len (λ x. bytes_eq x.name.text l.name) (drop l.number l.types) ≡ position_or_len (λ x. bytes_eq x.name.text l.name) l.types
+invariant-loop-number l =
+    l.number + position_or_len (λ x. bytes_eq x.name.text l.name) (drop l.number l.types) ≡ position_or_len (λ x. bytes_eq x.name.text l.name) l.types

@@ -10,4 +10,5 @@ invariant-one_never_holds-loop-part l = Unit {0}
 
 -- none of the parts so far holds
 abbrev pub invariant-none_ever_holds-loop-part : goal.invariant-none_ever_holds-loop-part
-invariant-none_ever_holds-loop-part l = (list : List Taken) → list_any (λ x. is_true (value_of l.plan.types (Some l.event) list x)) (take l.part-index l.parts) ≡ false
+invariant-none_ever_holds-loop-part l = (list : List Taken)
+    → list_any (λ x. is_true (value_of l.plan.types (Some l.event) list x)) (take l.part-index l.parts) ≡ false

@@ -16,4 +16,5 @@ loop-part-preserved c = λ list held known never.
 pub returns : goal.returns
 returns c = λ never list held known.
     let f : Bool → Part → Bool = λ so_far next. joined next.join so_far (is_true (value_of c.args.plan.now.types (Some c.args.event.now) list next.expr)) in
-    sym (ap (fold f held) (take_all c.loop-part.part-index c.args.rest.now (omega (arith, c.loop-part-test.false)))) ∙ c.loop-part.invariant list held known never
+    sym (ap (fold f held) (take_all c.loop-part.part-index c.args.rest.now (omega (arith, c.loop-part-test.false))))
+    ∙ c.loop-part.invariant list held known never

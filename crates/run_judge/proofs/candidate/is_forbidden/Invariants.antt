@@ -1,10 +1,12 @@
--- The answer is that of what is left.
-use Rattle.std.proofs.Common.{◌≡◌, ◌&&◌, not, drop}
+-- None of the negations so far forbids the event.
+use Rattle.std.proofs.Common.{◌≡◌, ◌&&◌, not, List, false, take}
 use Rattle.std.specs.List.{list_any}
-use Rattle.cep_plan.specs.Candidate.{is_between, satisfies, breaks_followed}
+use Rattle.cep_plan.specs.declared.item.Taken.{Taken}
+use Rattle.cep_plan.specs.Candidate.{is_between, satisfies}
+use Rattle.cond_sums.specs.Kept.{StandsFor}
 use Rattle.run_judge.proofs.candidate.is_forbidden.Given as goal
 
 abbrev pub invariant-loop-negation : goal.invariant-loop-negation
 invariant-loop-negation l =
-    breaks_followed l.plan l.taken l.before l.after l.event
-    ≡ list_any (λ n. not n.next_only && is_between l.before l.after n && satisfies l.plan l.taken n l.event) (drop l.negation-index l.plan.negations)
+    (list : List Taken) → StandsFor l.sums l.plan.types list
+    → list_any (λ n. not n.next_only && is_between l.before l.after n && satisfies l.plan list n l.event) (take l.negation-index l.plan.negations) ≡ false

@@ -1,16 +1,16 @@
-use Rattle.std.proofs.Common.{◌∙◌, ap, ◌&&◌}
-use Rattle.cep_plan.specs.Candidate.{fits}
-use Rattle.live_laws.specs.Survival.{survives, comes_in_time, takes}
-use Rattle.run_judge.specs.Fate.{survives_where, breaks_no_next}
+use Rattle.std.proofs.Common.{◌∙◌, rules, w64, SFits, to_z-of_z}
+use Rattle.run_judge.proofs.KeptLaws.{survives-kept, takes-kept}
 use Rattle.run_judge.proofs.gap.judged_list.Goals as goal
 
 pub returns-clause-taken : goal.returns-clause-taken
-unfolding takes fits
-returns-clause-taken c =
-    c.is_taken-taken.ensures
-    ∙ ap (λ candidate. candidate && breaks_no_next c.args.plan.now c.args.list.now c.args.stage c.args.event.now c.args.position && comes_in_time c.args.plan.now c.args.list.now c.args.event.now) c.is_wanted-candidate.ensures
+returns-clause-taken c = λ list is.
+    let fits : SFits w64 c.args.start_ts = search rules in
+    c.is_taken-taken.ensures list is.sums_stand
+    ∙ takes-kept c.args.plan.now c.args.event.now list c.args.sums.now c.args.last c.args.start_ts is c.args.stage c.args.position
+    c.is_wanted-candidate.result (c.is_wanted-candidate.ensures list is.sums_stand) _ (to_z-of_z fits)
 
 pub returns-clause-lives : goal.returns-clause-lives
-unfolding survives
-returns-clause-lives c =
-    c.lives_on-lives.ensures ∙ ap (survives_where c.args.plan.now c.args.list.now c.args.stage c.args.event.now c.args.position) c.is_wanted-candidate.ensures
+returns-clause-lives c = λ list is.
+    c.lives_on-lives.ensures list is.sums_stand
+    ∙ survives-kept c.args.plan.now c.args.event.now list c.args.sums.now c.args.last c.args.start_ts is c.args.stage c.args.position
+    c.is_wanted-candidate.result (c.is_wanted-candidate.ensures list is.sums_stand)

@@ -16,7 +16,8 @@ nat_cmp-suc a b = by_order (cases_order a b) where
   by_order (inr (inr h)) = sym (nat_cmp_is (suc a) (suc b) Greater (omega (arith, h))) ∙ nat_cmp_is a b Greater h
 
 -- where one list ends, their lengths decide
-ended : (xs ys : List Taken) (n : ℕ) → n ≡ min (length xs) (length ys) → nat_cmp (length xs) (length ys) ≡ list_cmp (entries_in (drop n xs)) (entries_in (drop n ys))
+ended : (xs ys : List Taken) (n : ℕ) → n ≡ min (length xs) (length ys)
+    → nat_cmp (length xs) (length ys) ≡ list_cmp (entries_in (drop n xs)) (entries_in (drop n ys))
 ended [] [] zero e = refl
 ended [] [] (suc n) e = refl
 ended [] (y ∷ ys) zero e = sym (nat_cmp_is 0 (suc (length ys)) Less (omega arith))
@@ -31,4 +32,5 @@ returns c =
     let xs = c.as_slice-list.result.now in
     let ys = c.as_slice-other.result.now in
     let at_end : c.loop-place.place ≡ min (length xs) (length ys) = omega (arith, c.loop-place.auto.place-end, c.loop-place-test.false, c.min-place-end.ensures) in
-    c.cmp-2.ensures ∙ ended xs ys c.loop-place.place at_end ∙ sym c.loop-place.invariant ∙ (λ i. list_cmp (entries_in (c.as_slice-list.ensures i)) (entries_in (c.as_slice-other.ensures i)))
+    c.cmp-2.ensures ∙ ended xs ys c.loop-place.place at_end ∙ sym c.loop-place.invariant
+    ∙ (λ i. list_cmp (entries_in (c.as_slice-list.ensures i)) (entries_in (c.as_slice-other.ensures i)))

@@ -20,18 +20,23 @@ loop-negation-preserved c =
     record {
       next = λ list before.
           let test : Negation → Bool = λ n. n.next_only && is_between before c.args.stage n && satisfies plan list n event in
-          any-more test _ c.loop-negation.negation-index n c.loop-negation-test.true c.negation-item.is (c.loop-negation.invariant.next list before) (refuted n.next_only (is_between before c.args.stage n) (satisfies plan list n event) (bar list before));
+          any-more test _ c.loop-negation.negation-index n c.loop-negation-test.true c.negation-item.is (c.loop-negation.invariant.next list before)
+          (refuted n.next_only (is_between before c.args.stage n) (satisfies plan list n event) (bar list before));
       followed = λ list before.
           let test : Negation → Bool = λ n. not n.next_only && is_between before c.args.stage n && satisfies plan list n event in
-          any-more test _ c.loop-negation.negation-index n c.loop-negation-test.true c.negation-item.is (c.loop-negation.invariant.followed list before) (refuted (not n.next_only) (is_between before c.args.stage n) (satisfies plan list n event) (bar list before));
+          any-more test _ c.loop-negation.negation-index n c.loop-negation-test.true c.negation-item.is
+          (c.loop-negation.invariant.followed list before)
+          (refuted (not n.next_only) (is_between before c.args.stage n) (satisfies plan list n event) (bar list before));
     }
 
 pub returns-clause-next : goal.returns-clause-next
 returns-clause-next c = λ done list before.
     let test : Negation → Bool = λ n. n.next_only && is_between before c.args.stage n && satisfies c.args.plan.now list n c.args.event.now in
-    sym (ap (list_any test) (take_all c.loop-negation.negation-index c.as_slice-negation-items.result.now (omega (arith, c.loop-negation-test.false)) ∙ c.as_slice-negation-items.ensures)) ∙ c.loop-negation.invariant.next list before
+    sym (ap (list_any test) (take_all c.loop-negation.negation-index c.as_slice-negation-items.result.now (omega (arith, c.loop-negation-test.false))
+    ∙ c.as_slice-negation-items.ensures)) ∙ c.loop-negation.invariant.next list before
 
 pub returns-clause-followed : goal.returns-clause-followed
 returns-clause-followed c = λ done list before.
     let test : Negation → Bool = λ n. not n.next_only && is_between before c.args.stage n && satisfies c.args.plan.now list n c.args.event.now in
-    sym (ap (list_any test) (take_all c.loop-negation.negation-index c.as_slice-negation-items.result.now (omega (arith, c.loop-negation-test.false)) ∙ c.as_slice-negation-items.ensures)) ∙ c.loop-negation.invariant.followed list before
+    sym (ap (list_any test) (take_all c.loop-negation.negation-index c.as_slice-negation-items.result.now (omega (arith, c.loop-negation-test.false))
+    ∙ c.as_slice-negation-items.ensures)) ∙ c.loop-negation.invariant.followed list before

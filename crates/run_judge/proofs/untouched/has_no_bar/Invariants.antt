@@ -7,6 +7,10 @@ use Rattle.run_judge.proofs.untouched.has_no_bar.Given as goal
 
 abbrev pub invariant-loop-negation : goal.invariant-loop-negation
 invariant-loop-negation l = record {
-  next : (list : List Taken) (before : ℕ) → list_any (λ n. n.next_only && is_between before l.stage n && satisfies l.plan list n l.event) (take l.negation-index l.negation-items) ≡ false;
-  followed : (list : List Taken) (before : ℕ) → list_any (λ n. not n.next_only && is_between before l.stage n && satisfies l.plan list n l.event) (take l.negation-index l.negation-items) ≡ false;
+  next : (list : List Taken) (before : ℕ)
+      → list_any (λ n. n.next_only && is_between before l.stage n && satisfies l.plan list n l.event) (take l.negation-index l.negation-items)
+      ≡ false;
+  followed : (list : List Taken) (before : ℕ)
+      → list_any (λ n. not n.next_only && is_between before l.stage n && satisfies l.plan list n l.event) (take l.negation-index l.negation-items)
+      ≡ false;
 }

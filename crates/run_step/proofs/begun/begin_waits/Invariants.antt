@@ -10,6 +10,8 @@ use Rattle.run_step.proofs.begun.begin_waits.Given as goal
 abbrev pub invariant-loop-wait : goal.invariant-loop-wait
 invariant-loop-wait l = record {
   counted : l.number ≡ l.wait-index;
-  begun : (plan : Plan) (events : List Event) (holder : Holder) (held : Holds) → CanBeginWaits plan events holder held l.one l.fn.waits l.initial.buffer → HasBegunWaits plan events holder held (take l.wait-index l.fn.waits) l.initial.fresh.items l.fresh.items l.buffer;
+  begun : (plan : Plan) (events : List Event) (holder : Holder) (held : Holds)
+      → CanBeginWaits plan events holder held l.one l.fn.waits l.initial.buffer
+      → HasBegunWaits plan events holder held (take l.wait-index l.fn.waits) l.initial.fresh.items l.fresh.items l.buffer;
   pins : KeepsPins l.initial.buffer l.buffer;
 }

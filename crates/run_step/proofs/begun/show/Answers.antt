@@ -10,11 +10,13 @@ release-requires c =
 
 pub returns-then-full-clause-shown : goal.returns-then-full-clause-shown
 returns-then-full-clause-shown c = λ plan events holder held can.
-    show_full plan events holder held c.args.one c.args.buffer.now can c.args.full c.if-full.true c.args.tips.now c.push.new.self _ c.in_ok-push.ensures.ok refl refl
+    show_full plan events holder held c.args.one c.args.buffer.now can c.args.full c.if-full.true c.args.tips.now c.push.new.self _
+    c.in_ok-push.ensures.ok refl refl
 
 pub returns-clause-shown : goal.returns-clause-shown
 returns-clause-shown c = λ plan events holder held can.
-    show_not plan events holder held c.args.one c.args.buffer.now can c.args.full c.if-full.false c.args.tips.now c.release.new.self c.release.ensures.consistent c.release.ensures.exact c.release.ensures.events
+    show_not plan events holder held c.args.one c.args.buffer.now can c.args.full c.if-full.false c.args.tips.now c.release.new.self
+    c.release.ensures.consistent c.release.ensures.exact c.release.ensures.events
 
 pub returns-then-full-clause-pins : goal.returns-then-full-clause-pins
 returns-then-full-clause-pins c = KeepsPins-refl c.args.buffer.now

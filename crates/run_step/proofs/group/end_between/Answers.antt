@@ -17,7 +17,8 @@ end_run-requires c =
     let some = c.requires.can in
     let next = window c.args.runs.now.items c.loop-place.place c.args.end c.index.result.now c.loop-place-test.true c.requires.bound c.index.ensures in
     some_ends some.plan some.events some.held c.index.result.now _ c.loop-place.buffer
-    (subst (λ (l : List Run). Ending some.plan some.events some.held l c.loop-place.buffer) next (c.loop-place.invariant.ending some.plan some.events some.holders some.held some.can))
+    (subst (λ (l : List Run). Ending some.plan some.events some.held l c.loop-place.buffer) next
+    (c.loop-place.invariant.ending some.plan some.events some.holders some.held some.can))
 
 pub loop-place-preserved : goal.loop-place-preserved
 loop-place-preserved c = record {
@@ -31,7 +32,9 @@ loop-place-preserved c = record {
 
 pub returns-clause-held : goal.returns-clause-held
 returns-clause-held c = λ plan events holders held can.
-    ends_all plan events held _ c.loop-place.buffer (ap length (take-none (drop c.loop-place.place c.args.runs.now.items) (c.args.end - c.loop-place.place) (omega (arith, c.loop-place-test.false)))) (c.loop-place.invariant.ending plan events holders held can)
+    ends_all plan events held _ c.loop-place.buffer
+    (ap length (take-none (drop c.loop-place.place c.args.runs.now.items) (c.args.end - c.loop-place.place)
+    (omega (arith, c.loop-place-test.false)))) (c.loop-place.invariant.ending plan events holders held can)
 
 pub returns-clause-pins : goal.returns-clause-pins
 returns-clause-pins c = c.loop-place.invariant.pins

@@ -9,6 +9,8 @@ use Rattle.run_step.proofs.group.end_between.Given as goal
 
 abbrev pub invariant-loop-place : goal.invariant-loop-place
 invariant-loop-place l = record {
-  ending : (plan : Plan) (events : List Event) (holders : List Holder) (held : Holds) → CanEndAll plan events holders held (take (l.end - l.first) (drop l.first l.runs.items)) l.initial.buffer → Ending plan events held (take (l.end - l.place) (drop l.place l.runs.items)) l.buffer;
+  ending : (plan : Plan) (events : List Event) (holders : List Holder) (held : Holds)
+      → CanEndAll plan events holders held (take (l.end - l.first) (drop l.first l.runs.items)) l.initial.buffer
+      → Ending plan events held (take (l.end - l.place) (drop l.place l.runs.items)) l.buffer;
   pins : KeepsPins l.initial.buffer l.buffer;
 }

@@ -10,5 +10,7 @@ abbrev pub invariant-loop-place : goal.invariant-loop-place
 invariant-loop-place l = record {
   sized : length l.groups.items ≡ length l.initial.groups.items;
   rest : drop l.place l.groups.items ≡ drop l.place l.initial.groups.items;
-  passed : (events : List Event) (waiters : List Waiter) → CanPassGroups l.plan events l.position waiters l.nfa (in_groups l.initial.groups.items) → PassingGroups l.plan events l.event waiters (in_groups (drop l.place l.initial.groups.items)) (in_groups (take l.place l.groups.items)) l.initial.passing l.passing;
+  passed : (events : List Event) (waiters : List Waiter) → CanPassGroups l.plan events l.position waiters l.nfa (in_groups l.initial.groups.items)
+      → PassingGroups l.plan events l.event waiters (in_groups (drop l.place l.initial.groups.items)) (in_groups (take l.place l.groups.items))
+      l.initial.passing l.passing;
 }

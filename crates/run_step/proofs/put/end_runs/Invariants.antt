@@ -10,6 +10,7 @@ use Rattle.run_step.proofs.put.end_runs.Given as goal
 abbrev pub invariant-loop-run : goal.invariant-loop-run
 invariant-loop-run l = record {
   counted : length l.run-iterator.rest.items ≡ l.run-iterator.rest.len;
-  ending : (plan : Plan) (events : List Event) (holders : List Holder) (held : Holds) → CanEndAll plan events holders held l.fn.ended.items l.initial.buffer → Ending plan events held l.run-iterator.rest.items l.buffer;
+  ending : (plan : Plan) (events : List Event) (holders : List Holder) (held : Holds)
+      → CanEndAll plan events holders held l.fn.ended.items l.initial.buffer → Ending plan events held l.run-iterator.rest.items l.buffer;
   pins : KeepsPins l.initial.buffer l.buffer;
 }

@@ -12,7 +12,8 @@ use Rattle.run_step.proofs.put.put_takes.Given as goal
 abbrev pub invariant-loop-take : goal.invariant-loop-take
 invariant-loop-take l = record {
   counted : length l.take-iterator.rest.items ≡ l.take-iterator.rest.len;
-  putting : (plan : Plan) (events : List Event) (position : ℕ) (waiters : List Waiter) (held : Holds) → CanPutAll plan events position l.event waiters held l.initial.buffer → AreTakesOf plan events position waiters l.fn.takes.items
+  putting : (plan : Plan) (events : List Event) (position : ℕ) (waiters : List Waiter) (held : Holds)
+      → CanPutAll plan events position l.event waiters held l.initial.buffer → AreTakesOf plan events position waiters l.fn.takes.items
       → PuttingSome plan events position l.event waiters held l.grown.items l.take-iterator.rest.items l.buffer;
   pins : KeepsPins l.initial.buffer l.buffer;
 }

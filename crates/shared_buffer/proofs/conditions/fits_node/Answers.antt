@@ -1,4 +1,4 @@
-use Rattle.shared_buffer.proofs.ConditionLemmas.{Fits-yes, Fits-no}
+use Rattle.shared_buffer.proofs.ConditionLaws.{Fits-yes, Fits-no}
 use Rattle.shared_buffer.proofs.conditions.fits_node.Goals as goal
 
 pub returns-then-row-stage : goal.returns-then-row-stage

@@ -1,5 +1,5 @@
 use Rattle.std.proofs.Common.{◌∙◌, arith}
-use Rattle.shared_buffer.proofs.ConditionLemmas.{successors-entries}
+use Rattle.shared_buffer.proofs.ConditionLaws.{successors-entries}
 use Rattle.shared_buffer.proofs.conditions.is_counted_more.Goals as goal
 
 pub loop-key-init : goal.loop-key-init

@@ -1,7 +1,7 @@
 use Rattle.std.proofs.Common.{◌≡◌, ◌+◌}
 use Rattle.std.specs.List.{sum_by}
 use Rattle.shared_buffer.specs.Graph.{successors}
-use Rattle.shared_buffer.proofs.ConditionLemmas.{weight_of_entry}
+use Rattle.shared_buffer.proofs.ConditionLaws.{weight_of_entry}
 use Rattle.shared_buffer.proofs.conditions.is_counted_more.Given as goal
 
 -- what was counted, and what the nodes that are left add to it

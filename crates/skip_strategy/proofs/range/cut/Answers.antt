@@ -14,4 +14,5 @@ pub returns-in-PastLast-clause-positions : goal.returns-in-PastLast-clause-posit
 returns-in-PastLast-clause-positions c = λ small start.
     let list = c.args.list.now in
     let below = subst (λ o. IfSome o (λ (p : ℕ). p < 2 ^ 32 - 1)) (sym c.last_position.ensures) (of_last (λ p. p < 2 ^ 32 - 1) (last_taken list) (last_or-each (λ (t : Taken). t.position < 2 ^ 32 - 1) None list tt small)) in
-    c.through.ensures.positions below start ∙ (λ i. is_from_to (c.first_position-in-PastLast.ensures i) (c.last_position.ensures i) start) ∙ ap (λ skip. kills_start skip list start) (sym c.in-PastLast.is)
+    c.through.ensures.positions below start ∙ (λ i. is_from_to (c.first_position-in-PastLast.ensures i) (c.last_position.ensures i) start)
+    ∙ ap (λ skip. kills_start skip list start) (sym c.in-PastLast.is)

@@ -10,10 +10,12 @@ returns-clause-before c =
     let parted = IsPartitionedBy-ltb (λ (s : Start). s.position) _ c.args.position (IsNonDecreasingBy-in_order c.args.starts.now.items c.requires) in
     let point = IsPartitionPoint-from_clause (λ (s : Start). ltb s.position c.args.position) _ _ c.partition_point.ensures.partitioned parted (λ a r q k. search rules) in
     let bound : c.partition_point.result ≤ length c.args.starts.now.items = search rules in
-    Each-take (λ (s : Start). s.position < c.args.position) c.args.starts.now.items c.partition_point.result bound (λ k d lt. ltb-true (get_or c.args.starts.now.items k d).position c.args.position (point.0 k d (omega arith) lt))
+    Each-take (λ (s : Start). s.position < c.args.position) c.args.starts.now.items c.partition_point.result bound
+    (λ k d lt. ltb-true (get_or c.args.starts.now.items k d).position c.args.position (point.0 k d (omega arith) lt))
 
 pub returns-clause-behind : goal.returns-clause-behind
 returns-clause-behind c =
     let parted = IsPartitionedBy-ltb (λ (s : Start). s.position) _ c.args.position (IsNonDecreasingBy-in_order c.args.starts.now.items c.requires) in
     let point = IsPartitionPoint-from_clause (λ (s : Start). ltb s.position c.args.position) _ _ c.partition_point.ensures.partitioned parted (λ a r q k. search rules) in
-    Each-drop (λ (s : Start). c.args.position ≤ s.position) c.args.starts.now.items c.partition_point.result (λ k d le lt. ltb-false (get_or c.args.starts.now.items k d).position c.args.position (point.1 k d le lt))
+    Each-drop (λ (s : Start). c.args.position ≤ s.position) c.args.starts.now.items c.partition_point.result
+    (λ k d le lt. ltb-false (get_or c.args.starts.now.items k d).position c.args.position (point.1 k d le lt))

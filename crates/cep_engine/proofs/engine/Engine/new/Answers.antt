@@ -16,11 +16,14 @@ none_kept None = refl
 none_kept (Some w) = refl
 
 -- before the first tick
-first_parts : (plan : Plan) (content : Content) (buffer : BufferContent) (saved : Kept) → StandsNow plan [] (open_after plan []) [] content (record { events = []; nodes = [] }) → buffer ≡ record { events = []; nodes = [] }
+first_parts : (plan : Plan) (content : Content) (buffer : BufferContent) (saved : Kept)
+    → StandsNow plan [] (open_after plan []) [] content (record { events = []; nodes = [] }) → buffer ≡ record { events = []; nodes = [] }
     → saved ≡ record { within = plan.within; starts = [] } → PartsStand plan [] content buffer saved
 unfolding kept history
 first_parts plan content buffer saved now empty none = record {
-  runs = subst (λ (b : BufferContent). RunsStand plan [] (open_after plan []) content b) (sym empty) (record { now = now; settled = λ key row found. let no : None ≡ Some row = found in absurd cc });
+  runs =
+      subst (λ (b : BufferContent). RunsStand plan [] (open_after plan []) content b) (sym empty)
+      (record { now = now; settled = λ key row found. let no : None ≡ Some row = found in absurd cc });
   limits = none ∙ (λ i. record { within = plan.within; starts = none_kept plan.within i });
   below = tt;
 }
@@ -34,7 +37,10 @@ invariant_of-result c = record {
   stands = λ _. record {
     ticks = [];
     stands = record {
-      parts = first_parts c.args.plan c.in_ok-runs.runs c.new-buffer.result c.new-limits.result (c.in_ok-runs.ensures.now c.args.plan (open_after c.args.plan []) c.in_ok-nfa.ensures) c.new-buffer.ensures.empty c.new-limits.ensures;
+      parts =
+          first_parts c.args.plan c.in_ok-runs.runs c.new-buffer.result c.new-limits.result
+          (c.in_ok-runs.ensures.now c.args.plan (open_after c.args.plan []) c.in_ok-nfa.ensures c.in_ok-asked.ensures) c.new-buffer.ensures.empty
+          c.new-limits.ensures;
       last = refl;
     };
   };
@@ -42,9 +48,18 @@ invariant_of-result c = record {
 
 pub returns-clause-stands : goal.returns-clause-stands
 returns-clause-stands c = record {
-  parts = first_parts c.args.plan c.in_ok-runs.runs c.new-buffer.result c.new-limits.result (c.in_ok-runs.ensures.now c.args.plan (open_after c.args.plan []) c.in_ok-nfa.ensures) c.new-buffer.ensures.empty c.new-limits.ensures;
+  parts =
+      first_parts c.args.plan c.in_ok-runs.runs c.new-buffer.result c.new-limits.result
+      (c.in_ok-runs.ensures.now c.args.plan (open_after c.args.plan []) c.in_ok-nfa.ensures c.in_ok-asked.ensures) c.new-buffer.ensures.empty
+      c.new-limits.ensures;
   last = refl;
 }
 
 pub returns-clause-fresh : goal.returns-clause-fresh
-returns-clause-fresh c = (refl, refl, (c.in_ok-runs.ensures.now c.args.plan (λ _. true) c.in_ok-nfa.ensures).stands.counted, c.new-items.ensures, refl)
+returns-clause-fresh c = (
+  refl,
+  refl,
+  (c.in_ok-runs.ensures.now c.args.plan (λ _. true) c.in_ok-nfa.ensures c.in_ok-asked.ensures).stands.counted,
+  c.new-items.ensures,
+  refl,
+)

@@ -24,7 +24,9 @@ invariant_of-self-2 c =
       plan = c.self.invariant.plan;
       nfa = c.self.invariant.nfa;
       room = c.self.invariant.room;
-      behind = λ _. subst (λ (t : ℤ). Each (λ (s : Start). (s.position < c.take_event.new.runs.position) × (int_le s.ts t ≡ true)) c.take_event.new.limits.starts) (sym trip) c.in_ok-made.ensures.behind;
+      behind =
+          λ _. subst (λ (t : ℤ). Each (λ (s : Start). (s.position < c.take_event.new.runs.position) × (int_le s.ts t ≡ true))
+          c.take_event.new.limits.starts) (sym trip) c.in_ok-made.ensures.behind;
       stands = λ _. record {
         ticks = some.ticks ++ event_tick event ∷ [];
         stands = record {
@@ -52,4 +54,5 @@ returns-clause-shares c = λ ticks stands.
     let parts = subst (λ v. PartsStand v.plan ticks v.runs v.buffer v.limits) (sym c.self.view_is) stands.parts in
     let later = comes_later c.args.self.now.last ticks event.ts stands.last c.requires.time in
     subst (λ v. SharesExactly v.plan (ticks ++ event_tick event ∷ []) c.take_event.new.runs c.take_event.new.buffer) c.self.view_is
-    (parts_share c.self.inside.plan (ticks ++ event_tick event ∷ []) c.take_event.new.runs c.take_event.new.buffer c.take_event.new.limits (c.in_ok-made.ensures.parts ticks parts later) c.facts.ensures)
+    (parts_share c.self.inside.plan (ticks ++ event_tick event ∷ []) c.take_event.new.runs c.take_event.new.buffer c.take_event.new.limits
+    (c.in_ok-made.ensures.parts ticks parts later) c.facts.ensures)

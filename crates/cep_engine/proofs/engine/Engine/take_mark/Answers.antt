@@ -28,7 +28,9 @@ invariant_of-self-2 c =
       stands = λ _. record {
         ticks = some.ticks ++ mark_tick (At time) ∷ [];
         stands = record {
-          parts = c.in_ok-made.ensures.parts c.self.inside.plan some.ticks some.stands.parts (comes_later c.self.inside.last some.ticks time some.stands.last not_before);
+          parts =
+              c.in_ok-made.ensures.parts c.self.inside.plan some.ticks some.stands.parts
+              (comes_later c.self.inside.last some.ticks time some.stands.last not_before);
           last = sym (last_time-push some.ticks (mark_tick (At time)));
         };
       };
@@ -41,7 +43,9 @@ returns-clause-stands c = λ ticks stands.
     let parts = subst (λ v. PartsStand v.plan ticks v.runs v.buffer v.limits) (sym c.self.view_is) stands.parts in
     let later = subst (λ (t : ℤ). ComesLater ticks (At t)) (sym trip) (comes_later c.args.self.now.last ticks c.args.time stands.last c.requires.time) in
     record {
-      parts = subst (λ (t : ℤ). PartsStand c.self.inside.plan (ticks ++ mark_tick (At t) ∷ []) c.take_mark.new.runs c.take_mark.new.buffer c.take_mark.new.limits) trip (c.in_ok-made.ensures.parts c.self.inside.plan ticks parts later);
+      parts =
+          subst (λ (t : ℤ). PartsStand c.self.inside.plan (ticks ++ mark_tick (At t) ∷ []) c.take_mark.new.runs c.take_mark.new.buffer
+          c.take_mark.new.limits) trip (c.in_ok-made.ensures.parts c.self.inside.plan ticks parts later);
       last = ap (λ (t : ℤ). Some (At t)) trip ∙ sym (last_time-push ticks (mark_tick (At c.args.time)));
     }
 
@@ -53,4 +57,5 @@ returns-clause-shares c = λ ticks stands.
     let later = subst (λ (t : ℤ). ComesLater ticks (At t)) (sym trip) (comes_later c.args.self.now.last ticks c.args.time stands.last c.requires.time) in
     let after = subst (λ (t : ℤ). PartsStand c.self.inside.plan (ticks ++ mark_tick (At t) ∷ []) c.take_mark.new.runs c.take_mark.new.buffer c.take_mark.new.limits) trip (c.in_ok-made.ensures.parts c.self.inside.plan ticks parts later) in
     subst (λ v. SharesExactly v.plan (ticks ++ mark_tick (At c.args.time) ∷ []) c.take_mark.new.runs c.take_mark.new.buffer) c.self.view_is
-    (parts_share c.self.inside.plan (ticks ++ mark_tick (At c.args.time) ∷ []) c.take_mark.new.runs c.take_mark.new.buffer c.take_mark.new.limits after c.facts.ensures)
+    (parts_share c.self.inside.plan (ticks ++ mark_tick (At c.args.time) ∷ []) c.take_mark.new.runs c.take_mark.new.buffer c.take_mark.new.limits
+    after c.facts.ensures)

@@ -7,4 +7,5 @@ use Rattle.cep_expression.proofs.grammar.Grammar.terms.Given as goal
 
 abbrev pub invariant-loop-turn : goal.invariant-loop-turn
 invariant-loop-turn g l =
-    with_front l.found (many (l._turn-end - l._turn) is_term_sign (next_term (expression l.self.room) l.self.room) l.cursor) ≡ terms (expression l.self.room) l.self.room l.fn.cursor
+    with_front l.found (many (l._turn-end - l._turn) is_term_sign (next_term (expression l.self.room) l.self.room) l.cursor)
+    ≡ terms (expression l.self.room) l.self.room l.fn.cursor

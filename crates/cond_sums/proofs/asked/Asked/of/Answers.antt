@@ -12,7 +12,9 @@ returns c =
     let all : c.add_each_stage.new.counted.items ≡ stages_counted c.args.plan.now = c.in_ok-add_each_stage.ensures ∙ (λ i. counted i ++ range_with_len 0 (length (c.as_slice-3.ensures i))) in
     record {
       pairs_rise = c.put_in_order.ensures.rising;
-      pairs_are = λ p. let Same : List (ℕ × ℕ) → Type 0 = λ xs. Contains c.put_in_order.new.pairs.items p ↔ Contains xs p in subst Same pairs (c.put_in_order.ensures.same p);
+      pairs_are = λ p. let Same : List (ℕ × ℕ) → Type 0 = λ xs. Contains c.put_in_order.new.pairs.items p ↔ Contains xs p in
+          subst Same pairs (c.put_in_order.ensures.same p);
       counted_rise = c.put_stages_in_order.ensures.rising;
-      counted_are = λ n. let Same : List ℕ → Type 0 = λ xs. Contains c.put_stages_in_order.new.stages.items n ↔ Contains xs n in subst Same all (c.put_stages_in_order.ensures.same n);
+      counted_are = λ n. let Same : List ℕ → Type 0 = λ xs. Contains c.put_stages_in_order.new.stages.items n ↔ Contains xs n in
+          subst Same all (c.put_stages_in_order.ensures.same n);
     }

@@ -1,4 +1,6 @@
-use Rattle.std.proofs.Common.{ap, arith}
+use Rattle.std.proofs.Common.{ap, subst, arith}
+use Rattle.cep_plan.specs.declared.plan.Plan.{Plan}
+use Rattle.event_pipeline.specs.Shown.{Shows, sizes_added}
 use Rattle.watermark_order.specs.Order.{OrderState}
 use Rattle.event_pipeline.proofs.RecordLaws.{handles}
 use Rattle.event_pipeline.proofs.RowLaws.{behind_waiting}
@@ -15,7 +17,13 @@ take_record-requires-clause-room g c = omega (arith, c.requires.3.within, c.requ
 pub take_record-requires-clause-stands : goal.take_record-requires-clause-stands
 take_record-requires-clause-stands g c = (_, c.requires.3.ticked)
 
-pub returns : goal.returns
-returns g c = λ lag plan records h.
+pub returns-clause-handled : goal.returns-clause-handled
+returns-clause-handled g c = λ lag plan records h.
     handles g.O.Outputs.tells g.O.Outputs.stops lag plan records c.args.next c.args.self.now _ (c.args.outputs.now, c.args.to.now) (c.take_record.new.outputs, c.take_record.new.to) c.take_record.result h
     c.take_record.ensures.plan c.take_record.ensures.running c.take_record.ensures.grown (c.take_record.ensures.gone lag records h.ordered h.ticked)
+
+pub returns-clause-shown : goal.returns-clause-shown
+returns-clause-shown g c = λ lag plan records h.
+    subst (λ (p : Plan). Shows (g.G.Gauge.seen c.args.gauge.now) (g.G.Gauge.seen c.take_record.new.gauge)
+    (sizes_added lag p records c.args.next) c.take_record.result) h.planned
+    (c.take_record.ensures.shown lag records h.ordered h.ticked)

@@ -25,6 +25,7 @@ returns c = λ types is type name.
     let made : (q : List ℕ) → contains_text c.in_ok-names.names q ≡ (holds (get_by_text c.args.self.types c.args.declared.now.name.text) q || is_declared c.args.declared.now.fields q)
     = λ q.
     c.in_ok-names.ensures q
-    ∙ ap (λ b. b || is_declared c.as_slice.result.now q) (c.names_in.ensures q ∙ ap (λ o. holds o q) c.remove-found.ensures.value ∙ ap (λ t. holds (get_by_text c.args.self.types t) q) asked)
+    ∙ ap (λ b. b || is_declared c.as_slice.result.now q)
+    (c.names_in.ensures q ∙ ap (λ o. holds o q) c.remove-found.ensures.value ∙ ap (λ t. holds (get_by_text c.args.self.types t) q) asked)
     ∙ ap (λ fields. holds (get_by_text c.args.self.types c.args.declared.now.name.text) q || is_declared fields q) c.as_slice.ensures in
     ap (λ o. holds o name) inserted ∙ with_type types c.args.declared.now (get_by_text c.args.self.types) c.in_ok-names.names is made type name

@@ -13,14 +13,17 @@ pub returns-then-is_empty-clause-passed : goal.returns-then-is_empty-clause-pass
 returns-then-is_empty-clause-passed c = λ events waiters can.
     let none : length c.self.inside.runs.items ≡ 0 = search rules in
     let same = ap (λ (v : Grouped). length v.runs) c.self.view_is in
-    no_runs c.args.plan.now events c.args.event.now c.args.self.now.stage c.args.position c.args.nfa.now waiters c.args.self.now.runs can (sym same ∙ none) c.args.passing.now
+    no_runs c.args.plan.now events c.args.event.now c.args.self.now.stage c.args.position c.args.nfa.now waiters c.args.self.now.runs can
+    (sym same ∙ none) c.args.passing.now
 
 pub returns-then-is_untouched-clause-passed : goal.returns-then-is_untouched-clause-passed
 returns-then-is_untouched-clause-passed c = λ events waiters can.
     let named = ap (λ (v : Grouped). v.stage) c.self.view_is in
     passed_all c.args.plan.now events c.args.event.now c.args.self.now.stage waiters c.args.self.now.runs can.waiting can.runs_are
-    (λ list position. ap (λ s. takes c.args.plan.now list s c.args.event.now position) (sym named) ∙ c.is_untouched.ensures.taken c.if-is_untouched.true list position)
-    (λ list position. ap (λ s. survives c.args.plan.now list s c.args.event.now position) (sym named) ∙ c.is_untouched.ensures.lives c.if-is_untouched.true list position)
+    (λ list position. ap (λ s. takes c.args.plan.now list s c.args.event.now position) (sym named)
+    ∙ c.is_untouched.ensures.taken c.if-is_untouched.true list position)
+    (λ list position. ap (λ s. survives c.args.plan.now list s c.args.event.now position) (sym named)
+    ∙ c.is_untouched.ensures.lives c.if-is_untouched.true list position)
     c.args.passing.now
 
 pub pass_tail-requires : goal.pass_tail-requires
@@ -29,7 +32,9 @@ pass_tail-requires c =
     record {
       events = some.events;
       waiters = drop c.in_ok-kept.kept some.waiters;
-      can = tail_can c.args.plan.now some.events c.args.event.now c.self.inside.stage c.args.position c.args.nfa.now some.waiters c.self.inside.runs.items some.can c.in_ok-kept.kept c.in_ok-tail.tail.items (c.in_ok-tail.ensures.tail ∙ c.in_ok-kept.ensures.rest);
+      can =
+          tail_can c.args.plan.now some.events c.args.event.now c.self.inside.stage c.args.position c.args.nfa.now some.waiters
+          c.self.inside.runs.items some.can c.in_ok-kept.kept c.in_ok-tail.tail.items (c.in_ok-tail.ensures.tail ∙ c.in_ok-kept.ensures.rest);
     }
 
 pub invariant_of-self-in-Continue-branch-3 : goal.invariant_of-self-in-Continue-branch-3
@@ -44,19 +49,29 @@ invariant_of-self-in_err-pass_tail c =
 
 pub returns-in_ok-pass_tail-clause-passed : goal.returns-in_ok-pass_tail-clause-passed
 returns-in_ok-pass_tail-clause-passed c =
-    subst (λ (v : Grouped). (events : List Event) (waiters : List Waiter) → CanPassGroup c.args.plan.now events c.args.position v.stage waiters c.args.nfa.now v.runs → GroupPassed c.args.plan.now events c.args.event.now v.stage waiters c.pass_tail.new.runs.items c.args.passing.now c.pass_tail.new.passing) c.self.view_is
+    subst (λ (v : Grouped). (events : List Event) (waiters : List Waiter)
+    → CanPassGroup c.args.plan.now events c.args.position v.stage waiters c.args.nfa.now v.runs
+    → GroupPassed c.args.plan.now events c.args.event.now v.stage waiters c.pass_tail.new.runs.items c.args.passing.now c.pass_tail.new.passing)
+    c.self.view_is
     (λ events waiters can.
-    both_parts c.args.plan.now events c.args.event.now c.self.inside.stage c.args.position c.args.nfa.now waiters c.self.inside.runs.items can c.in_ok-kept.kept c.pass_front.new.runs.items c.pass_tail.new.runs.items c.args.passing.now c.pass_front.new.passing c.pass_tail.new.passing
+    both_parts c.args.plan.now events c.args.event.now c.self.inside.stage c.args.position c.args.nfa.now waiters c.self.inside.runs.items can
+    c.in_ok-kept.kept c.pass_front.new.runs.items c.pass_tail.new.runs.items c.args.passing.now c.pass_front.new.passing c.pass_tail.new.passing
     (c.in_ok-kept.ensures.front events waiters can)
     (λ front are.
     c.in_ok-pass_tail.ensures.passed events (drop c.in_ok-kept.kept waiters) front
-    (tail_can c.args.plan.now events c.args.event.now c.self.inside.stage c.args.position c.args.nfa.now waiters c.self.inside.runs.items can c.in_ok-kept.kept c.in_ok-tail.tail.items (c.in_ok-tail.ensures.tail ∙ c.in_ok-kept.ensures.rest))
-    (subst (λ (rs : List Run). AreRunsOf c.args.plan.now (events ++ c.args.event.now ∷ []) front (map (staged c.self.inside.stage) rs)) (sym c.in_ok-tail.ensures.items) are)))
+    (tail_can c.args.plan.now events c.args.event.now c.self.inside.stage c.args.position c.args.nfa.now waiters c.self.inside.runs.items can
+    c.in_ok-kept.kept c.in_ok-tail.tail.items (c.in_ok-tail.ensures.tail ∙ c.in_ok-kept.ensures.rest))
+    (subst (λ (rs : List Run). AreRunsOf c.args.plan.now (events ++ c.args.event.now ∷ []) front (map (staged c.self.inside.stage) rs))
+    (sym c.in_ok-tail.ensures.items) are)))
 
 pub returns-else-kept-len-clause-passed : goal.returns-else-kept-len-clause-passed
 returns-else-kept-len-clause-passed c =
     let all : length c.pass_front.new.runs.items ≤ c.in_ok-kept.kept = search rules in
-    subst (λ (v : Grouped). (events : List Event) (waiters : List Waiter) → CanPassGroup c.args.plan.now events c.args.position v.stage waiters c.args.nfa.now v.runs → GroupPassed c.args.plan.now events c.args.event.now v.stage waiters c.pass_front.new.runs.items c.args.passing.now c.pass_front.new.passing) c.self.view_is
+    subst (λ (v : Grouped). (events : List Event) (waiters : List Waiter)
+    → CanPassGroup c.args.plan.now events c.args.position v.stage waiters c.args.nfa.now v.runs
+    → GroupPassed c.args.plan.now events c.args.event.now v.stage waiters c.pass_front.new.runs.items c.args.passing.now
+    c.pass_front.new.passing) c.self.view_is
     (λ events waiters can.
-    whole_front c.args.plan.now events c.args.event.now c.self.inside.stage c.args.position c.args.nfa.now waiters c.self.inside.runs.items can c.in_ok-kept.kept c.pass_front.new.runs.items c.in_ok-kept.ensures.within.1 all c.args.passing.now c.pass_front.new.passing
+    whole_front c.args.plan.now events c.args.event.now c.self.inside.stage c.args.position c.args.nfa.now waiters c.self.inside.runs.items can
+    c.in_ok-kept.kept c.pass_front.new.runs.items c.in_ok-kept.ensures.within.1 all c.args.passing.now c.pass_front.new.passing
     (c.in_ok-kept.ensures.front events waiters can))

@@ -1,4 +1,4 @@
-use Rattle.shared_buffer.proofs.FactLemmas.{IsConsistent-from}
+use Rattle.shared_buffer.proofs.FactLaws.{IsConsistent-from}
 use Rattle.shared_buffer.proofs.buffer.Buffer.facts.Goals as goal
 
 pub returns : goal.returns

@@ -1,6 +1,6 @@
-use Rattle.shared_buffer.proofs.ExactLemmas.{ReleasesOneHold-from}
-use Rattle.shared_buffer.proofs.HeldLemmas.{KeepsHoldsBut-release}
-use Rattle.shared_buffer.proofs.RunLemmas.{Awaits-first, Awaits-step, used_before_step, KeepsEvents-trans, edges_if-falls}
+use Rattle.shared_buffer.proofs.ExactLaws.{ReleasesOneHold-from}
+use Rattle.shared_buffer.proofs.HeldLaws.{KeepsHoldsBut-release}
+use Rattle.shared_buffer.proofs.RunLaws.{Awaits-first, Awaits-step, used_before_step, KeepsEvents-trans, edges_if-falls}
 use Rattle.shared_buffer.proofs.buffer.Buffer.release.Goals as goal
 
 pub loop-next-init : goal.loop-next-init
@@ -39,11 +39,13 @@ pub returns-clause-exact : goal.returns-clause-exact
 returns-clause-exact c =
     let done = rw c.in_default.is at c.loop-next.invariant.nodes in
     rw (← c.self.view_is)
-    (ReleasesOneHold-from c.args.version.now c.loop-next.self.nodes c.self.inside.nodes.slots c.args.node c.self.invariant.graph (rw (← c.self.view_is) at c.requires) (rw (← c.self.view_is) at done))
+    (ReleasesOneHold-from c.args.version.now c.loop-next.self.nodes c.self.inside.nodes.slots c.args.node c.self.invariant.graph
+    (rw (← c.self.view_is) at c.requires) (rw (← c.self.view_is) at done))
 
 pub returns-clause-keeps : goal.returns-clause-keeps
 returns-clause-keeps c =
     let done = rw c.in_default.is at c.loop-next.invariant.nodes in
     rw (← c.self.view_is)
-    (KeepsHoldsBut-release c.self.inside.nodes.slots c.loop-next.self.nodes c.self.invariant.graph.prefix_free c.facts.ensures.prefix_free c.args.node c.args.version.now
-    (ReleasesOneHold-from c.args.version.now c.loop-next.self.nodes c.self.inside.nodes.slots c.args.node c.self.invariant.graph (rw (← c.self.view_is) at c.requires) (rw (← c.self.view_is) at done)))
+    (KeepsHoldsBut-release c.self.invariant.graph.prefix_free c.facts.ensures.prefix_free c.args.node c.args.version.now
+    (ReleasesOneHold-from c.args.version.now c.loop-next.self.nodes c.self.inside.nodes.slots c.args.node c.self.invariant.graph
+    (rw (← c.self.view_is) at c.requires) (rw (← c.self.view_is) at done)))

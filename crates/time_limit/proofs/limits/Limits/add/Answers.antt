@@ -11,4 +11,5 @@ invariant_of-self c =
     let next : Start = record { position = c.args.start; ts = c.args.ts } in
     let is : c.push_back.new.self.items ≡ c.self.inside.starts.items ++ next ∷ [] = search rules in
     subst AreInOrder (sym is)
-    (AreInOrder-push c.self.inside.starts.items next c.self.invariant (subst (λ k. Each (λ (s : Start). (s.position < c.args.start) × (int_le s.ts c.args.ts ≡ true)) k.starts) (sym c.self.view_is) c.requires))
+    (AreInOrder-push c.self.inside.starts.items next c.self.invariant
+    (subst (λ k. Each (λ (s : Start). (s.position < c.args.start) × (int_le s.ts c.args.ts ≡ true)) k.starts) (sym c.self.view_is) c.requires))

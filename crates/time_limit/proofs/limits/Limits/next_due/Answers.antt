@@ -6,7 +6,8 @@ use Rattle.time_limit.proofs.limits.Limits.next_due.Goals as goal
 pub returns-then-not-is_front_reached-clause-due : goal.returns-then-not-is_front_reached-clause-due
 returns-then-not-is_front_reached-clause-due c =
     let shut : is_front_over c.self.inside.within c.args.now c.self.inside.starts.items ≡ false = search rules in
-    sym (ap (λ k. first_over k.within c.args.now k.starts) (sym c.self.view_is) ∙ first_over-none c.self.inside.within c.args.now c.self.inside.starts.items c.self.invariant shut)
+    sym (ap (λ k. first_over k.within c.args.now k.starts) (sym c.self.view_is)
+    ∙ first_over-none c.self.inside.within c.args.now c.self.inside.starts.items c.self.invariant shut)
 
 pub returns-then-not-is_front_reached-clause-left : goal.returns-then-not-is_front_reached-clause-left
 returns-then-not-is_front_reached-clause-left c =

@@ -11,7 +11,9 @@ pub returns-clause-answer : goal.returns-clause-answer
 returns-clause-answer c =
     IfOk-weaker c.admit.result _ _
     (λ answer by_mark lag arrivals is.
-    by_mark ∙ ap (λ b. if b then answers.Late c.args.event.row else answers.Kept) (ap (λ o. is_reached o.mark c.args.event.ts) is ∙ sym (late_is lag arrivals c.args.event)))
+    by_mark
+    ∙ ap (λ b. if b then answers.Late c.args.event.row else answers.Kept)
+    (ap (λ o. is_reached o.mark c.args.event.ts) is ∙ sym (late_is lag arrivals c.args.event)))
     c.admit.ensures.by_mark
 
 pub returns-clause-stands : goal.returns-clause-stands

@@ -6,4 +6,6 @@ use Rattle.watermark_order.proofs.OrderLaws.{HandsOut-end}
 use Rattle.watermark_order.proofs.order.Order.end.Goals as goal
 
 pub returns-clause-hands : goal.returns-clause-hands
-returns-clause-hands c = λ lag arrivals is. subst (λ o. HandsOut o (released arrivals End) (ended (order_of lag arrivals))) (sym (ap (λ o. with_mark o End) (c.self.view_is ∙ is))) (HandsOut-end lag arrivals)
+returns-clause-hands c =
+    λ lag arrivals is. subst (λ o. HandsOut o (released arrivals End) (ended (order_of lag arrivals)))
+    (sym (ap (λ o. with_mark o End) (c.self.view_is ∙ is))) (HandsOut-end lag arrivals)

@@ -11,8 +11,10 @@ invariant_of-self-then-is_behind c =
     let fits : SFits w64 c.args.event.ts = search rules in
     record {
       queue_upward =
-          upward-pushed (is_ok c.push_back.result) c.self.inside.queue.items c.push_back.new.self.items c.args.event c.push_back.ensures.items c.self.invariant.queue_upward
-          (upward-behind c.self.inside.queue.items c.args.event c.self.invariant.queue_upward rows.0 (ap (is_behind c.self.inside.queue.items) (sym (to_z-of_z fits)) ∙ sym c.is_behind.ensures ∙ c.if-is_behind.true));
+          upward-pushed (is_ok c.push_back.result) c.self.inside.queue.items c.push_back.new.self.items c.args.event c.push_back.ensures.items
+          c.self.invariant.queue_upward
+          (upward-behind c.self.inside.queue.items c.args.event c.self.invariant.queue_upward rows.0
+          (ap (is_behind c.self.inside.queue.items) (sym (to_z-of_z fits)) ∙ sym c.is_behind.ensures ∙ c.if-is_behind.true));
       aside_upward = c.self.invariant.aside_upward;
       keyed = c.self.invariant.keyed;
     }
@@ -28,11 +30,13 @@ invariant_of-self-else-is_behind c =
 pub returns-in_ok-push_back-clause-ok : goal.returns-in_ok-push_back-clause-ok
 returns-in_ok-push_back-clause-ok c =
     let rows = each-held (λ y. y.row < c.args.event.row) c.self.inside.queue.items (values_of c.self.inside.aside.entries) c.args.self.now c.self.view_is c.requires.rows in
-    pushed-behind c.self.inside.queue.items c.push_back.new.self.items (values_of c.self.inside.aside.entries) c.args.self.now c.args.event c.self.view_is rows.0 c.in_ok-push_back.ensures.items
+    pushed-behind c.self.inside.queue.items c.push_back.new.self.items (values_of c.self.inside.aside.entries) c.args.self.now c.args.event
+    c.self.view_is rows.0 c.in_ok-push_back.ensures.items
 
 pub returns-in_ok-insert-clause-ok : goal.returns-in_ok-insert-clause-ok
 returns-in_ok-insert-clause-ok c =
     let rows = each-held (λ y. y.row < c.args.event.row) c.self.inside.queue.items (values_of c.self.inside.aside.entries) c.args.self.now c.self.view_is c.requires.rows in
     let fits : SFits w64 c.args.event.ts = search rules in
     let put = c.in_ok-insert.ensures.entries ∙ ap (λ time. insert_entry key_cmp c.self.inside.aside.entries (time, c.args.event.row) c.args.event) (to_z-of_z fits) in
-    pushed-aside c.self.inside.queue.items c.self.inside.aside.entries c.insert.new.self.entries c.args.self.now c.args.event c.self.view_is c.self.invariant.keyed rows.0 rows.1 put
+    pushed-aside c.self.inside.queue.items c.self.inside.aside.entries c.insert.new.self.entries c.args.self.now c.args.event c.self.view_is
+    c.self.invariant.keyed rows.0 rows.1 put
