@@ -37,6 +37,8 @@ pattern() {
 echo "rows: $rows"
 echo "plain split of the trades: $(measured "$folder/trades.csv" "$folder/split")"
 pattern "two relaxed stages within a limit" trades.csv 'pattern begin("a").of(Trade).where(price > 990).followedBy("b").of(Trade).where(price < 10 && sym == last("a").sym).within(1000);' --lag 0
+pattern "the same with a limit between neighbours" trades.csv 'pattern begin("a").of(Trade).where(price > 990).followedBy("b").of(Trade).where(price < 10 && sym == last("a").sym).withinGap(1000);' --lag 0
+pattern "the same, ended by what doesn't come" trades.csv 'pattern begin("a").of(Trade).where(price > 990).notFollowedBy("b").of(Trade).where(price < 10 && sym == last("a").sym).within(1000);' --lag 0
 pattern "two relaxed stages, one row in a hundred begins" trades.csv 'pattern begin("a").of(Trade).where(price >= 990).followedBy("b").of(Trade).where(price < 1 && sym == last("a").sym);' --lag 0
 pattern "10,000 partial matches that see other types" mixed.csv 'pattern begin("a").of(Open).followedByAny("b").of(Close).where(id == last("a").id);' --lag 0
 pattern "100,000 starts that are due at once" silence.csv 'pattern begin("a").of(Open).followedBy("b").of(Close).within(500000);' --lag 0

@@ -45,7 +45,7 @@ class Event:
 
 class Pattern:
     def __init__(self):
-        self.stages, self.negations, self.within, self.skip = [], [], None, ("none", None)
+        self.stages, self.negations, self.within, self.within_gap, self.skip = [], [], None, None, ("none", None)
 
 
 # ---- the meaning of a pattern
@@ -72,8 +72,15 @@ class Meaning:
     def count(self, entries, stage):
         return sum(1 for _, s in entries if s == stage)
 
+    def is_closing(self):
+        """A negation stands behind the last stage. Lists then wait for an end stage, which is numbered behind the last one."""
+        return any(n.after == len(self.pattern.stages) - 1 for n in self.pattern.negations)
+
     def may_follow(self, entries, stage):
         stages = self.pattern.stages
+        if stage == len(stages):
+            last = len(stages) - 1
+            return self.is_closing() and bool(entries) and entries[-1][1] == last and self.count(entries, last) >= stages[last].least
         if not entries:
             return all(s.optional for s in stages[:stage])
         last = entries[-1][1]
@@ -83,9 +90,15 @@ class Meaning:
 
     def is_full(self, entries):
         stages, last = self.pattern.stages, entries[-1][1]
-        return self.count(entries, last) >= stages[last].least and all(s.optional for s in stages[last + 1 :])
+        return not self.is_closing() and self.count(entries, last) >= stages[last].least and all(s.optional for s in stages[last + 1 :])
+
+    def is_open_for(self, entries, stage, position):
+        """The list waits for the stage, which may be the end stage, up to the position."""
+        return self.may_follow(entries, stage) and self.gap_holds(entries, stage, position)
 
     def is_candidate(self, entries, stage, position):
+        if stage == len(self.pattern.stages):
+            return False
         declared, event, taken = self.pattern.stages[stage], self.events[position], self.taken(entries)
         of = declared.of is None or declared.of == event.kind
         return of and holds(declared.conditions, event, taken) and not (declared.until and declared.until.test(event, taken))
@@ -108,8 +121,8 @@ class Meaning:
         if not entries:
             return True
         last_position, last = entries[-1]
-        declared, taken = self.pattern.stages[stage], self.taken(entries)
-        mode = declared.inner if stage == last else declared.first
+        declared, taken = self.pattern.stages[min(stage, len(self.pattern.stages) - 1)], self.taken(entries)
+        mode = ANY if stage == len(self.pattern.stages) else declared.inner if stage == last else declared.first
         for place in range(last_position + 1, position):
             if mode == STRICT or (mode == RELAXED and self.is_candidate(entries, stage, place)):
                 return False
@@ -123,9 +136,17 @@ class Meaning:
                     return False
         return True
 
+    def limit(self, entries):
+        """The time at which the list's limit is reached, if it has one."""
+        whole, gap, limit = self.pattern.within, self.pattern.within_gap, END
+        if whole is not None:
+            limit = min(limit, self.events[entries[0][0]].time + whole)
+        if gap is not None:
+            limit = min(limit, self.events[entries[-1][0]].time + gap)
+        return limit
+
     def in_time(self, entries, position):
-        within = self.pattern.within
-        return within is None or not entries or self.events[position].time < self.events[entries[0][0]].time + within
+        return not entries or self.events[position].time < self.limit(entries)
 
     def partial_lists(self):
         """All partial matches among the events."""
@@ -142,21 +163,18 @@ class Meaning:
         return found
 
     def is_live(self, entries, came):
-        return entries[-1][0] < came and any(
-            self.may_follow(entries, stage) and self.gap_holds(entries, stage, came) for stage in range(len(self.pattern.stages))
-        )
+        return entries[-1][0] < came and any(self.is_open_for(entries, stage, came) for stage in range(len(self.pattern.stages) + 1))
 
     def items(self, ticks):
         """The items of the ticks, in order, each with the number of its tick."""
-        partial, came, before, told = self.partial_lists(), 0, None, []
+        partial, end, came, before, told = self.partial_lists(), len(self.pattern.stages), 0, None, []
+        limited = self.pattern.within is not None or self.pattern.within_gap is not None
         for number, (time, is_event) in enumerate(ticks):
-            if before is not None and self.pattern.within is not None:
-                due = [
-                    entries
-                    for entries in partial
-                    if before < self.events[entries[0][0]].time + self.pattern.within <= time and self.is_live(entries, came) and not self.is_full(entries)
-                ]
-                told += [(number, "timeout", entries) for entries in sorted(due)]
+            if before is not None and limited:
+                due = [entries for entries in partial if before < self.limit(entries) <= time and self.is_live(entries, came) and not self.is_full(entries)]
+                closing = [entries for entries in due if self.is_open_for(entries, end, came)]
+                told += [(number, "timeout", entries) for entries in sorted(set(due) - set(closing))]
+                told += [(number, "match", entries) for entries in sorted(closing)]
             if is_event:
                 told += [(number, "match", entries) for entries in sorted(partial) if entries[-1][0] == came and self.is_full(entries)]
                 came += 1
@@ -298,15 +316,7 @@ def random_pattern(dice, scale=1):
     for number in range(dice.choice([1, 2, 2, 3, 3, 4])):
         stage = Stage(f"s{number}")
         if number:
-            for place in range(dice.choice([0, 0, 0, 1, 2])):
-                if pattern.stages[-1].optional:
-                    break
-                negation = Negation(f"n{number}{place}", number - 1, dice.random() < 0.5)
-                negation.of = dice.choice([None, "A", "B", "C", "D"])
-                named = [(n, s.name, s.of is None or TYPES[s.of]) for n, s in enumerate(pattern.stages)]
-                negation.conditions = conditions(dice, negation.of, named, scale)
-                pattern.negations.append(negation)
-                text += f'.{"notNext" if negation.next_only else "notFollowedBy"}("{negation.name}")' + modifiers(negation)
+            text += negated(dice, pattern, dice.choice([0, 0, 0, 1, 2]), scale)
             stage.first = dice.choice([STRICT, RELAXED, RELAXED, ANY])
         stage.of = dice.choice([None, "A", "A", "B", "B", "C", "D"])
         named = [(n, s.name, s.of is None or TYPES[s.of]) for n, s in enumerate(pattern.stages + [stage])]
@@ -316,7 +326,16 @@ def random_pattern(dice, scale=1):
         text += f'.{OPENINGS[stage.first] if number else "begin"}("{stage.name}")' + modifiers(stage) + stage.modifiers
     if dice.random() < 0.4:
         pattern.within = dice.randrange(1, 9)
+    if dice.random() < 0.3:
+        pattern.within_gap = dice.randrange(1, 5)
+    if (pattern.within or pattern.within_gap) and dice.random() < 0.4 and not pattern.stages[-1].optional:
+        text += negated(dice, pattern, dice.choice([1, 1, 2]), scale)
+        if pattern.negations[-1].next_only:
+            text += negated(dice, pattern, 1, scale, False)
+    if pattern.within:
         text += f".within({pattern.within})"
+    if pattern.within_gap:
+        text += f".withinGap({pattern.within_gap})"
     text = "pattern " + text[1:] + ";"
     how = dice.choice(["none", "none", "to_next", "past_last", "to_first", "to_last"])
     named = dice.randrange(len(pattern.stages))
@@ -327,6 +346,19 @@ def random_pattern(dice, scale=1):
         text += f" skip {how};"
     declared = " ".join(f"event {name}({'v int' if has else ''});" for name, has in TYPES.items())
     return pattern, f"{declared} {text}\n"
+
+
+def negated(dice, pattern, count, scale, next_only=None):
+    """The text of so many negations behind the last stage so far, unless that is optional."""
+    text, number = "", len(pattern.stages)
+    for _ in range(0 if pattern.stages[-1].optional else count):
+        negation = Negation(f"n{len(pattern.negations)}", number - 1, dice.random() < 0.5 if next_only is None else next_only)
+        negation.of = dice.choice([None, "A", "B", "C", "D"])
+        named = [(n, s.name, s.of is None or TYPES[s.of]) for n, s in enumerate(pattern.stages)]
+        negation.conditions = conditions(dice, negation.of, named, scale)
+        pattern.negations.append(negation)
+        text += f'.{"notNext" if negation.next_only else "notFollowedBy"}("{negation.name}")' + modifiers(negation)
+    return text
 
 
 def modifiers(stage):

@@ -32,8 +32,7 @@ def sizes_of(pattern, events, ticks):
         matches = [entries for when, kind, entries in kept if kind == "match" and when <= number]
 
         def is_living(entries):
-            has_time = pattern.within is None or events[entries[0][0]].time + pattern.within > time
-            return has_time and meant.is_live(entries, came) and not any(meant.kills(match, entries) for match in matches)
+            return meant.limit(entries) > time and meant.is_live(entries, came) and not any(meant.kills(match, entries) for match in matches)
 
         living = [entries for entries in partial if is_living(entries)]
         stand = {entries[: size + 1] for entries in living for size in range(len(entries))}

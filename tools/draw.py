@@ -9,6 +9,7 @@ import sys
 LOOKS = {"none": "bold", "other": "solid", "all": "dashed"}
 STATE = re.compile(r"state (\d+) (\S+#\d+\+?)( full)?")
 WAIT = re.compile(r"  proceed take (\S+#\d+\+?) ignore (none|other|all)( chain)?(.*)")
+CLOSE = re.compile(r"  proceed close(.*)")
 
 
 def quoted(text):
@@ -28,6 +29,11 @@ def main():
         elif found := WAIT.fullmatch(line):
             label = "ignore " + found[2] + (found[3] or "") + found[4].replace(" not", "\nnot")
             print(f"  {state} -> {quoted(found[1])} [style={LOOKS[found[2]]}, label={quoted(label)}];".replace("\n", "\\n"))
+        elif found := CLOSE.fullmatch(line):
+            # the end has no name of a state, since none is `close` without a count
+            label = "at the limit" + found[1].replace(" not", "\nnot")
+            print("  close [shape=doublecircle];")
+            print(f"  {state} -> close [style=dashed, label={quoted(label)}];".replace("\n", "\\n"))
         else:
             sys.exit(f"draw.py: this is not what `cep explain` prints: {line}")
     print("}")

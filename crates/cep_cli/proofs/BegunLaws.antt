@@ -41,7 +41,7 @@ room-within (Some w) h = inner w h where
   inner w h = let one = first_is (nat_le 1 w) (nat_le w 4611686018427387904) h in grind (arith, nat_tests, one)
 
 pub has_room : (plan : Plan) → IsUsable plan → HasRoom plan
-has_room plan u = room-within plan.within u.checked.limit
+has_room plan u = (room-within plan.within u.checked.limit, room-within plan.within_gap u.checked.gap)
 
 pub numbered : (plan : Plan) → IsUsable plan → AreNumbered plan.types
 numbered plan u = record {

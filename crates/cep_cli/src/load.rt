@@ -238,6 +238,8 @@ fn types_alone(alloc: Global, plan: &Plan) -> Result<Plan, NoMemory>
         stages: StageList::new(alloc),
         negations: NegationList::new(alloc),
         within: None,
+        within_gap: None,
+        by: None,
         skip: Skip::No,
         select: None,
     })

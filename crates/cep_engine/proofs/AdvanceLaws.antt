@@ -1,5 +1,5 @@
 -- One more event comes into the buffer, is stepped, loses its pin, and its matches are read and released.
-use Rattle.std.proofs.Common.{◌≡◌, refl, sym, ◌∙◌, ap, subst, ℕ, zero, suc, ◌≤◌, arith, Bool, true, false, List, [], ◌∷◌, ◌++◌, length, map, ◌⊎◌, inl, inr}
+use Rattle.std.proofs.Common.{◌≡◌, refl, sym, ◌∙◌, ap, subst, ℕ, zero, suc, ◌≤◌, arith, true, false, List, [], ◌∷◌, ◌++◌, map, ◌⊎◌, inl, inr}
 use Rattle.std.specs.Prelude.{Option, Some, None, Result, Ok, Err, IfOk}
 use Rattle.std.specs.List.{AllByRecursion as Each}
 use Rattle.std.specs.List.Sorted.{IsPermutation, IsSortedBy}
@@ -22,9 +22,11 @@ use Rattle.run_step.specs.declared.runs.Tip.{Tip}
 use Rattle.run_step.specs.Content.{Content}
 use Rattle.run_step.specs.Pins.{KeepsPins}
 use Rattle.run_step.specs.Runs.{Stands, holder_of}
-use Rattle.run_step.specs.Showing.{ShowsWaiting}
+use Rattle.run_step.specs.Showing.{ShowsLists}
 use Rattle.run_step.specs.Stepping.{HasEvent, HasStepped, CanStep}
-use Rattle.live_laws.specs.Starts.{comes_earlier}
+use Rattle.cep_plan.specs.Entry.{Entry}
+use Rattle.list_runs.specs.Runs.{Admits}
+use Rattle.live_laws.specs.Starts.{Scope, comes_earlier}
 use Rattle.cep_engine.specs.Running.{IsSettled, RunsStand}
 use Rattle.cep_engine.specs.Tips.{IsHolding, AreHeldTips, AreFreedTips}
 use Rattle.cep_engine.proofs.RunningLaws.{IsSettled-kept}
@@ -32,8 +34,8 @@ use Rattle.cep_engine.proofs.RunningLaws.{IsSettled-kept}
 -- ---- what the buffer holds
 
 -- the holds of the runs' lists
-abbrev pub held_for : {plan : Plan} {events : List Event} {starts : ℕ → Bool} {tips : List Holder} {content : Content} {buffer : BufferContent}
-    → Stands plan events starts tips content buffer → Holds
+abbrev pub held_for : {plan : Plan} {events : List Event} {scope : Scope} {tips : List Holder} {content : Content} {buffer : BufferContent}
+    → Stands plan events scope tips content buffer → Holds
 held_for stands = held_by (map holder_of stands.waiters)
 
 -- no event is ahead
@@ -42,17 +44,17 @@ now_known : (plan : Plan) (events ahead : List Event) (held : Holds) (buffer : B
 now_known plan events ahead held buffer none has =
     subst (λ (es : List Event). HoldsLists plan es held buffer) (ap (λ a. events ++ a) none ∙ append-nil events) has
 
-pub has_lists : (plan : Plan) (events : List Event) (starts : ℕ → Bool) (content : Content) (buffer : BufferContent)
-    → (runs : RunsStand plan events starts content buffer) → HoldsLists plan events (held_for runs.now.stands) buffer
-has_lists plan events starts content buffer runs =
+pub has_lists : (plan : Plan) (events : List Event) (scope : Scope) (content : Content) (buffer : BufferContent)
+    → (runs : RunsStand plan events scope content buffer) → HoldsLists plan events (held_for runs.now.stands) buffer
+has_lists plan events scope content buffer runs =
     HoldsLists-same plan events (both_hold (held_for runs.now.stands) (held_by [])) (held_for runs.now.stands) buffer (λ list key. omega arith)
     (now_known plan events runs.now.stands.ahead (both_hold (held_for runs.now.stands) (held_by [])) buffer runs.now.none_ahead runs.now.stands.held)
 
 -- the same runs stand over another buffer that holds their lists
-stand_over : (plan : Plan) (events : List Event) (starts : ℕ → Bool) (tips : List Holder) (content : Content) (old new : BufferContent)
-    → (before : Stands plan events starts tips content old)
-    → HoldsLists plan events (held_for before) new → IsSettled new → RunsStand plan events starts content new
-stand_over plan events starts tips content old new before has settled = record {
+stand_over : (plan : Plan) (events : List Event) (scope : Scope) (tips : List Holder) (content : Content) (old new : BufferContent)
+    → (before : Stands plan events scope tips content old)
+    → HoldsLists plan events (held_for before) new → IsSettled new → RunsStand plan events scope content new
+stand_over plan events scope tips content old new before has settled = record {
   now = record {
     stands = record {
       counted = before.counted;
@@ -111,15 +113,15 @@ cases_used (slot ∷ nodes) event = by_slot slot refl (cases_used nodes event) w
 
 -- ---- one more event
 
-module _ (plan : Plan) (events : List Event) (starts : ℕ → Bool) (content : Content) (old : BufferContent)
-    (runs : RunsStand plan events starts content old) (event : Event) (key position : ℕ) (at : position ≡ content.position)
+module _ (plan : Plan) (events : List Event) (scope : Scope) (content : Content) (old : BufferContent)
+    (runs : RunsStand plan events scope content old) (event : Event) (key position : ℕ) (at : position ≡ content.position)
     (added : BufferContent) (same_nodes : added.nodes ≡ old.nodes)
     (adds : Changes old.events added.events key (Some (record { event = event; position = position; pinned = true }))) where
   abbrev whole : List Event
   whole = events ++ event ∷ []
 
   -- the event stands, and is ahead
-  pub stands_ahead : Stands plan events starts [] content added
+  pub stands_ahead : Stands plan events scope [] content added
   stands_ahead =
       let before = runs.now.stands in
       record {
@@ -137,8 +139,16 @@ module _ (plan : Plan) (events : List Event) (starts : ℕ → Bool) (content : 
             (now_known plan events before.ahead (both_hold (held_for before) (held_by [])) old runs.now.none_ahead before.held);
       }
 
-  pub can_step : starts (length events) ≡ true → CanStep plan content added
-  can_step fresh = record { events = events; starts = starts; fresh = fresh; stands = stands_ahead }
+  pub can_step : Admits plan events scope event → CanStep plan key content added
+  can_step admits = record {
+    events = events;
+    scope = scope;
+    admits = λ row found.
+        let both : Some (record { event = event; position = position; pinned = true }) ≡ Some row = sym adds.changed ∙ found in
+        let same : record { event = event; position = position; pinned = true } ≡ row = cc in
+        subst (λ (r : Standing). Admits plan events scope r.event) same admits;
+    stands = stands_ahead;
+  }
 
   pub has_event : HasEvent added key content.position
   has_event = record { row = record { event = event; position = position; pinned = true }; found = adds.changed; position_is = at; pinned = refl }
@@ -154,7 +164,7 @@ module _ (plan : Plan) (events : List Event) (starts : ℕ → Bool) (content : 
           pinned = refl;
         }
 
-    module _ (stepped : HasStepped plan events event starts [] shown content_after stepped_to) (settled : BufferContent)
+    module _ (stepped : HasStepped plan events event scope [] shown content_after stepped_to) (settled : BufferContent)
         (still_nodes : settled.nodes ≡ stepped_to.nodes)
         (used : IsUsed stepped_to.nodes key → (row : Standing) → slot_at stepped_to.events key ≡ Some row
         → Changes stepped_to.events settled.events key (Some (record row { pinned = false })))
@@ -212,19 +222,19 @@ module _ (plan : Plan) (events : List Event) (starts : ℕ → Bool) (content : 
 
       -- and then the event was taken in
       pub has_advanced : (freed : BufferContent) → HoldsLists plan (events ++ event ∷ []) held_after freed → KeepsPins settled freed
-          → RunsStand plan (events ++ event ∷ []) starts content_after freed
+          → RunsStand plan (events ++ event ∷ []) scope content_after freed
       has_advanced freed has keeps_freed =
-          stand_over plan (events ++ event ∷ []) starts (stepped.holders ++ []) content_after stepped_to freed stepped.stands has
+          stand_over plan (events ++ event ∷ []) scope (stepped.holders ++ []) content_after stepped_to freed stepped.stands has
           (IsSettled-kept settled freed keeps_freed is_settled)
 
--- ---- lists that wait
+-- ---- lists that are shown
 
-pub can_read_waiting :
-    (plan : Plan) (events : List Event) (starts : ℕ → Bool) (content : Content) (buffer : BufferContent)
-    (runs : RunsStand plan events starts content buffer) (start : ℕ) (shown : List Tip)
-    → (waiting : ShowsWaiting plan events start runs.now.stands.waiters shown) → AreHeldTips plan events waiting.holders (held_for runs.now.stands) shown buffer
-can_read_waiting plan events starts content buffer runs start shown waiting =
-    record { has = has_lists plan events starts content buffer runs; are_held = waiting.held; tips_are = waiting.shown_are }
+pub can_read_shown :
+    (plan : Plan) (events : List Event) (scope : Scope) (content : Content) (buffer : BufferContent)
+    (runs : RunsStand plan events scope content buffer) (told : List (List Entry)) (shown : List Tip)
+    → (shows : ShowsLists plan events runs.now.stands.waiters told shown) → AreHeldTips plan events shows.holders (held_for runs.now.stands) shown buffer
+can_read_shown plan events scope content buffer runs told shown shows =
+    record { has = has_lists plan events scope content buffer runs; are_held = shows.held; tips_are = shows.shown_are }
 
 -- ---- lists in order
 

@@ -1,4 +1,3 @@
-pub mod DueLaws
 pub mod KeptLaws
 pub mod LoopLaws
 pub mod OpenLaws
@@ -10,3 +9,4 @@ pub mod RunningLaws
 pub mod TipLaws
 pub mod AdvanceLaws
 pub mod SharingLaws
+pub mod TellLaws

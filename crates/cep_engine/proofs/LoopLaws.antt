@@ -1,6 +1,6 @@
 -- The steps of the loops over starts and matches.
 use Rattle.std.proofs.Common.{◌≡◌, refl, sym, ◌∙◌, ap, ℕ, suc, zero, ◌+◌, ◌<◌, arith, Bool, true, false, not, ◌&&◌, ◌||◌, cond, List, [], ◌∷◌, ◌++◌, length, map, take, get_or}
-use Rattle.std.specs.Prelude.{filter, flat_map}
+use Rattle.std.specs.Prelude.{filter}
 use Rattle.std.specs.List.{list_any, AllByRecursion as Each}
 use Rattle.std.proofs.lemmas.List.{take_more}
 use Rattle.std.proofs.lemmas.List.Folds.{list_any-append}
@@ -12,27 +12,18 @@ use Rattle.cep_plan.specs.declared.item.Item.{Item}
 use Rattle.cep_plan.specs.declared.item.Item.TheVariants.{Match}
 use Rattle.cep_plan.specs.Skipping.{is_killed, kept_after}
 use Rattle.cep_plan.proofs.HistoryLaws.{kept_after-append}
+use Rattle.live_laws.specs.Starts.{Scope}
 use Rattle.live_laws.proofs.MemberLaws.{filter-filter}
 use Rattle.shared_buffer.specs.Content.{Content as BufferContent}
 use Rattle.run_step.specs.Content.{Content}
-use Rattle.cep_engine.specs.Running.{RunsStand}
-use Rattle.cep_engine.proofs.RunningLaws.{RunsStand-same}
+use Rattle.cep_engine.specs.Running.{RunsStand, without_starts}
+use Rattle.cep_engine.proofs.RunningLaws.{RunsStand-is}
 
 -- ---- lists
 
 pub map-push : {X Y : Type 0} (f : X → Y) (xs : List X) (x : X) → map f (xs ++ x ∷ []) ≡ map f xs ++ f x ∷ []
 map-push f [] x = refl
 map-push f (y ∷ xs) x = λ i. f y ∷ map-push f xs x i
-
-pub flat_map-push : {X Y : Type 0} (f : X → List Y) (xs : List X) (x : X) → flat_map f (xs ++ x ∷ []) ≡ flat_map f xs ++ f x
-flat_map-push f [] x = with_nil (f x) where
-  with_nil : {Z : Type 0} (ys : List Z) → ys ++ [] ≡ ys
-  with_nil [] = refl
-  with_nil (y ∷ ys) = λ i. y ∷ with_nil ys i
-flat_map-push f (y ∷ xs) x = ap (λ r. f y ++ r) (flat_map-push f xs x) ∙ joined (f y) (flat_map f xs) (f x) where
-  joined : {Z : Type 0} (a b c : List Z) → a ++ (b ++ c) ≡ (a ++ b) ++ c
-  joined [] b c = refl
-  joined (z ∷ a) b c = λ i. z ∷ joined a b c i
 
 pub map-joined : {X Y : Type 0} (f : X → Y) (xs ys : List X) → map f (xs ++ ys) ≡ map f xs ++ map f ys
 map-joined f [] ys = refl
@@ -46,11 +37,6 @@ pub Each-get : {X : Type 0} (P : X → Type 0) (xs : List X) (i : ℕ) (d : X) �
 Each-get P [] i d lt h = absurd (omega (arith, lt))
 Each-get P (x ∷ xs) zero d lt h = h.0
 Each-get P (x ∷ xs) (suc i) d lt h = Each-get P xs i d (omega (arith, lt)) h.1
-
-pub get_or-same : {X : Type 0} (xs : List X) (i : ℕ) (d e : X) → i < length xs → get_or xs i d ≡ get_or xs i e
-get_or-same [] i d e lt = absurd (omega (arith, lt))
-get_or-same (x ∷ xs) zero d e lt = refl
-get_or-same (x ∷ xs) (suc i) d e lt = get_or-same xs i d e (omega (arith, lt))
 
 pub Each-push : {X : Type 0} (P : X → Type 0) (xs : List X) (x : X) → Each P xs → P x → Each P (xs ++ x ∷ [])
 Each-push P [] x h k = (k, tt)
@@ -83,19 +69,28 @@ or_false false = refl
 
 -- one more of those that are left out, by a test that says the same of it
 pub RunsStand-more :
-    {X : Type 0} (kills : X → ℕ → Bool) (plan : Plan) (events : List Event) (starts test : ℕ → Bool) (content : Content) (buffer : BufferContent)
+    {X : Type 0} (kills : X → ℕ → Bool) (plan : Plan) (events : List Event) (scope : Scope) (test : ℕ → Bool) (content : Content) (buffer : BufferContent)
     (xs : List X) (i : ℕ) (x : X)
     → x ≡ get_or xs i x → i < length xs → ((p : ℕ) → test p ≡ kills x p)
-    → RunsStand plan events (λ p. (starts p && not (list_any (λ y. kills y p) (take i xs))) && not (test p)) content buffer
-    → RunsStand plan events (λ p. starts p && not (list_any (λ y. kills y p) (take (i + 1) xs))) content buffer
-RunsStand-more kills plan events starts test content buffer xs i x is lt same stands =
-    RunsStand-same plan events (λ p. (starts p && not (list_any (λ y. kills y p) (take i xs))) && not (test p))
-    (λ p. starts p && not (list_any (λ y. kills y p) (take (i + 1) xs))) content buffer
-    (λ p. and_not_either (starts p) (list_any (λ y. kills y p) (take i xs)) (test p)
-    ∙ ap (λ b. starts p && not b)
-    (ap (λ b. list_any (λ y. kills y p) (take i xs) || b) (same p ∙ sym (or_false (kills x p)))
-    ∙ sym (list_any-append (λ y. kills y p) (take i xs) (x ∷ []))
-    ∙ ap (list_any (λ y. kills y p)) (ap (λ y. take i xs ++ y ∷ []) is ∙ sym (take_more xs i x lt)))) stands
+    → RunsStand plan events (without_starts (without_starts scope (λ p. list_any (λ y. kills y p) (take i xs))) test) content buffer
+    → RunsStand plan events (without_starts scope (λ p. list_any (λ y. kills y p) (take (i + 1) xs))) content buffer
+RunsStand-more kills plan events scope test content buffer xs i x is lt same stands =
+    RunsStand-is plan events (without_starts (without_starts scope (λ p. list_any (λ y. kills y p) (take i xs))) test)
+    (without_starts scope (λ p. list_any (λ y. kills y p) (take (i + 1) xs))) content buffer
+    (λ j. record scope {
+      starts = λ p. (and_not_either (scope.starts p) (list_any (λ y. kills y p) (take i xs)) (test p)
+          ∙ ap (λ b. scope.starts p && not b)
+          (ap (λ b. list_any (λ y. kills y p) (take i xs) || b) (same p ∙ sym (or_false (kills x p)))
+          ∙ sym (list_any-append (λ y. kills y p) (take i xs) (x ∷ []))
+          ∙ ap (list_any (λ y. kills y p)) (ap (λ y. take i xs ++ y ∷ []) is ∙ sym (take_more xs i x lt)))) j;
+    }) stands
+
+-- a scope without no starts
+pub RunsStand-none : (plan : Plan) (events : List Event) (scope : Scope) (content : Content) (buffer : BufferContent)
+    → RunsStand plan events scope content buffer → RunsStand plan events (without_starts scope (λ p. false)) content buffer
+RunsStand-none plan events scope content buffer stands =
+    RunsStand-is plan events scope (without_starts scope (λ p. false)) content buffer
+    (λ j. record scope { starts = λ p. sym (and_true (scope.starts p)) j }) stands
 
 -- the same of a list that is filtered
 pub filter-more : {X Y : Type 0} (kills : X → Y → Bool) (test : Y → Bool) (ys : List Y) (xs : List X) (i : ℕ) (x : X) → x ≡ get_or xs i x

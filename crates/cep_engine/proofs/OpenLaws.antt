@@ -1,36 +1,33 @@
--- The starts that are open before and after a tick, and what is kept of them.
-use Rattle.std.proofs.Common.{◌≡◌, refl, sym, ◌∙◌, ap, ℕ, zero, suc, ◌+◌, ◌<◌, arith, Bool, true, false, not, ◌&&◌, ◌==◌, cond, List, [], ◌∷◌, ◌++◌, length, length-append, map}
+-- The open starts and last positions after one more event, and without the starts that are killed.
+use Rattle.std.proofs.Common.{◌≡◌, refl, sym, ◌∙◌, ap, ℕ, zero, suc, ◌+◌, ◌<◌, arith, Bool, true, false, not, ◌&&◌, cond, List, [], ◌∷◌, ◌++◌, length, length-append, map}
 use Rattle.std.specs.Prelude.{ℤ, pos, ◌+ℤ◌, int_le, filter, Option, Some, None, IfSome, option_map}
-use Rattle.std.specs.List.{list_any, last_or, range_with_len, AllByRecursion as Each}
+use Rattle.std.specs.List.{last_or, range_with_len, AllByRecursion as Each}
 use Rattle.std.proofs.lemmas.Int.{ints}
 use Rattle.std.proofs.lemmas.List.{get_or_push}
 use Rattle.std.proofs.lemmas.List.Elements.{filter-append}
 use Rattle.cep_event.specs.declared.event.Event.{Event}
 use Rattle.cep_event.specs.declared.record.Moment.{Moment}
 use Rattle.cep_event.specs.declared.record.Moment.TheVariants.{At}
-use Rattle.cep_event.specs.Moment.{has_reached}
 use Rattle.cep_plan.specs.declared.plan.Plan.{Plan}
 use Rattle.cep_plan.specs.declared.item.Item.{Item}
 use Rattle.cep_plan.specs.Entry.{event_at, no_event}
-use Rattle.cep_plan.specs.Limit.{limit_from, is_due, is_time_left}
+use Rattle.cep_plan.specs.Keys.{kept_of, kept_at}
+use Rattle.cep_plan.specs.Limit.{limit_from, limit_behind, is_time_left}
 use Rattle.cep_plan.specs.Tick.{Tick, event_tick, mark_tick, time_of, events_of, last_time}
 use Rattle.cep_plan.specs.History.{history, items_at}
 use Rattle.cep_plan.specs.Skipping.{kept, kept_after}
 use Rattle.cep_plan.proofs.HistoryLaws.{history-push, kept_after-append}
 use Rattle.cep_plan.proofs.LocalLaws.{event_at-append}
-use Rattle.cep_plan.proofs.RisingLaws.{Each-map}
-use Rattle.live_laws.specs.Starts.{is_start_alive, open_starts, due_starts}
+use Rattle.live_laws.specs.Starts.{is_start_alive, open_starts, open_lasts, open_scope}
 use Rattle.live_laws.proofs.LastLaws.{last_or-push}
-use Rattle.live_laws.proofs.MemberLaws.{filter-filter, filter-map, filter-same, Each-filter, Contains-range}
-use Rattle.live_laws.proofs.TimeLaws.{is_time_left-due}
+use Rattle.live_laws.proofs.MemberLaws.{filter-filter, filter-map, filter-same, Each-filter}
 use Rattle.shared_buffer.specs.Content.{Content as BufferContent}
 use Rattle.run_step.specs.Content.{Content}
-use Rattle.time_limit.specs.declared.limits.Start.{Start}
+use Rattle.time_limit.specs.declared.queue.Place.{Place}
 use Rattle.time_limit.specs.Limits.{limited}
-use Rattle.cep_engine.specs.Due.{due_among, left_among}
+use Rattle.due_laws.specs.Due.{place_at, places_among, saved_for}
 use Rattle.cep_engine.specs.Running.{RunsStand}
-use Rattle.cep_engine.specs.Standing.{kept_of, kept_at, start_at, starts_among}
-use Rattle.cep_engine.proofs.DueLaws.{due_among-limited, left_among-limited, is_among-filtered}
+use Rattle.cep_engine.specs.State.{HasRoom}
 use Rattle.cep_engine.proofs.LoopLaws.{map-joined}
 use Rattle.cep_engine.proofs.RunningLaws.{RunsStand-agree}
 
@@ -77,9 +74,9 @@ filter-passes test (x ∷ xs) = chosen (test x) refl (filter-passes test xs) whe
   chosen true is rest = (is, rest)
   chosen false is rest = rest
 
-pub limited-each : (P : Start → Type 0) (within : Option ℕ) (starts : List Start) → Each P starts → Each P (limited within starts)
-limited-each P None starts h = tt
-limited-each P (Some w) starts h = h
+pub limited-each : (P : Place → Type 0) (limit : Option ℕ) (places : List Place) → Each P places → Each P (limited limit places)
+limited-each P None places h = tt
+limited-each P (Some l) places h = h
 
 range_below : (low n : ℕ) → Each (λ p. p < low + n) (range_with_len low n)
 range_below low zero = tt
@@ -112,157 +109,99 @@ Each-into : {X : Type 0} (P Q : X → Type 0) (xs : List X) → ((x : X) → P x
 Each-into P Q [] f h = tt
 Each-into P Q (x ∷ xs) f h = (f x h.0, Each-into P Q xs f h.1)
 
--- ---- the starts that are due
-
-module _ (plan : Plan) (ticks : List Tick) (items : List Item) (now : Moment) where
-  events : List Event
-  events = events_of ticks
-
-  abbrev alive : ℕ → Bool
-  alive = is_start_alive plan.skip items
-
-  abbrev open_before : ℕ → Bool
-  open_before = open_starts plan (events_of ticks) items (last_time ticks)
-
-  first_tick : last_time ticks ≡ None → range_with_len 0 (length (events_of ticks)) ≡ []
-  first_tick h = ap (λ es. range_with_len 0 (length es)) (no_events ticks h)
-
-  -- the due starts are those of the definitions
-  pub due_among-starts :
-      due_among plan.within now (starts_among plan (events_of ticks) open_before)
-      ≡ filter (due_starts plan (events_of ticks) (last_time ticks) now alive) (range_with_len 0 (length (events_of ticks)))
-  due_among-starts =
-      due_among-limited (λ p. (event_at (events_of ticks) p).ts) alive now plan.within (last_time ticks)
-      (range_with_len 0 (length (events_of ticks))) first_tick
-
-  pub left_among-starts : IfSome (last_time ticks) (λ earlier. (t : ℤ) → has_reached earlier t ≡ true → has_reached now t ≡ true)
-      → left_among plan.within now (starts_among plan (events_of ticks) open_before)
-      ≡ starts_among plan (events_of ticks) (open_starts plan (events_of ticks) items (Some now))
-  left_among-starts later =
-      left_among-limited (λ p. (event_at (events_of ticks) p).ts) alive now plan.within (last_time ticks)
-      (range_with_len 0 (length (events_of ticks))) first_tick later
-
-  pub starts_among-open : Each (λ s. open_before s.position ≡ true) (starts_among plan (events_of ticks) open_before)
-  starts_among-open =
-      limited-each (λ s. open_before s.position ≡ true) plan.within
-      (map (start_at (events_of ticks)) (filter open_before (range_with_len 0 (length (events_of ticks)))))
-      (Each-map (λ (s : Start). open_before s.position ≡ true) (start_at (events_of ticks))
-      (filter open_before (range_with_len 0 (length (events_of ticks))))
-      (filter-passes open_before (range_with_len 0 (length (events_of ticks)))))
-
-  left_bits : (a l d : Bool) → ((a && l) && not (d && a)) ≡ (a && (l && not d))
-  left_bits false l d = refl
-  left_bits true l true = refl
-  left_bits true l false = refl
-
-  still_open : (before : Option Moment) → last_time ticks ≡ before
-      → IfSome before (λ earlier. (t : ℤ) → has_reached earlier t ≡ true → has_reached now t ≡ true) → (p : ℕ) → p < length (events_of ticks)
-      → ((alive p && is_time_left (limit_from plan (event_at (events_of ticks) p)) before)
-      && not (is_due (limit_from plan (event_at (events_of ticks) p)) before now && alive p))
-      ≡ open_starts plan (events_of ticks) items (Some now) p
-  still_open None is later p lt = let none = ap length (no_events ticks is) in absurd (omega (arith, lt, none))
-  still_open (Some moment) is later p lt =
-      let limit = limit_from plan (event_at (events_of ticks) p) in
-      left_bits (alive p) (is_time_left limit (Some moment)) (is_due limit (Some moment) now) ∙ ap (λ b. alive p && b) (is_time_left-due limit moment now later)
-
-  -- the runs without those of the due starts are those of the starts that are still open
-  pub RunsStand-left : IfSome (last_time ticks) (λ earlier. (t : ℤ) → has_reached earlier t ≡ true → has_reached now t ≡ true)
-      → (content : Content) (buffer : BufferContent)
-      → RunsStand plan (events_of ticks) (λ p. open_before p
-      && not (list_any (λ s. s == p) (due_among plan.within now (starts_among plan (events_of ticks) open_before)))) content buffer
-      → RunsStand plan (events_of ticks) (open_starts plan (events_of ticks) items (Some now)) content buffer
-  RunsStand-left later content buffer stands =
-      let positions = range_with_len 0 (length (events_of ticks)) in
-      let due = due_starts plan (events_of ticks) (last_time ticks) now alive in
-      RunsStand-agree plan (events_of ticks) (λ p. open_before p
-      && not (list_any (λ s. s == p) (due_among plan.within now (starts_among plan (events_of ticks) open_before))))
-      (open_starts plan (events_of ticks) items (Some now)) content buffer
-      (λ p lt. ap (λ b. open_before p && not b) (ap (list_any (λ s. s == p)) due_among-starts
-      ∙ is_among-filtered due positions p (Contains-range 0 (length (events_of ticks)) p (omega arith) (omega (arith, lt))))
-      ∙ still_open (last_time ticks) refl later p lt) stands
-
 -- ---- one more event
 
 not_yet : (a : ℤ) (w : ℕ) → 0 < w → int_le (a +ℤ pos w) a ≡ false
 not_yet a w h = grind (arith, ints)
 
-new_open : (within : Option ℕ) (ts : ℤ) → IfSome within (λ w. 0 < w) → is_time_left (option_map (λ w. ts +ℤ pos w) within) (Some (At ts)) ≡ true
+new_open : (limit : Option ℕ) (ts : ℤ) → IfSome limit (λ l. 0 < l) → is_time_left (option_map (λ l. ts +ℤ pos l) limit) (Some (At ts)) ≡ true
 new_open None ts h = refl
-new_open (Some w) ts h = ap not (not_yet ts w h)
+new_open (Some l) ts h = ap not (not_yet ts l h)
+
+at_new : (events : List Event) (event : Event) → event_at (events ++ event ∷ []) (length events) ≡ event
+at_new events event = get_or_push events event no_event (length events) refl
+
+-- the positions that are open, with the new one
+pub places_among-event : (limit : Option ℕ) (events : List Event) (event : Event) (old new : ℕ → Bool) → ((p : ℕ) → p < length events → old p ≡ new p)
+    → new (length events) ≡ true
+    → places_among limit events old ++ limited limit (record { position = length events; ts = event.ts } ∷ [])
+    ≡ places_among limit (events ++ event ∷ []) new
+places_among-event None events event old new agree is_new = refl
+places_among-event (Some l) events event old new agree is_new =
+    (λ i. (ap (map (place_at events)) same_places ∙ same_at) i ++ new_place i ∷ [])
+    ∙ sym (ap (map (place_at (events ++ event ∷ []))) one_more
+    ∙ map-joined (place_at (events ++ event ∷ [])) (filter new (range_with_len 0 (length events))) (length events ∷ [])) where
+      same_places : filter old (range_with_len 0 (length events)) ≡ filter new (range_with_len 0 (length events))
+      same_places =
+          filter-same old new (range_with_len 0 (length events))
+          (Each-into (λ p. p < length events) (λ p. old p ≡ new p) (range_with_len 0 (length events)) agree (positions_below (length events)))
+
+      same_at :
+          map (place_at events) (filter new (range_with_len 0 (length events)))
+          ≡ map (place_at (events ++ event ∷ [])) (filter new (range_with_len 0 (length events)))
+      same_at =
+          map-same (place_at events) (place_at (events ++ event ∷ [])) (filter new (range_with_len 0 (length events)))
+          (Each-into (λ p. p < length events) (λ p. place_at events p ≡ place_at (events ++ event ∷ []) p) (filter new (range_with_len 0 (length events)))
+          (λ p lt. λ i. record { position = p; ts = (sym (event_at-append events (event ∷ []) p lt) i).ts })
+          (Each-filter (λ (p : ℕ). p < length events) new (range_with_len 0 (length events)) (positions_below (length events))))
+
+      new_place : record { position = length events; ts = event.ts } ≡ place_at (events ++ event ∷ []) (length events)
+      new_place = λ i. record { position = length events; ts = (sym (at_new events event) i).ts }
+
+      one_more : filter new (range_with_len 0 (length (events ++ event ∷ []))) ≡ filter new (range_with_len 0 (length events)) ++ length events ∷ []
+      one_more =
+          ap (λ n. filter new (range_with_len 0 n)) (length-append events (event ∷ [])) ∙ ap (filter new) (positions_push (length events))
+          ∙ filter-append new (range_with_len 0 (length events)) (length events ∷ [])
+          ∙ ap (λ b. filter new (range_with_len 0 (length events)) ++ cond b (length events ∷ []) []) is_new
 
 module _ (plan : Plan) (events : List Event) (items : List Item) (event : Event) where
-  abbrev whole : List Event
-  whole = events ++ event ∷ []
+  abbrev now : Moment
+  now = At event.ts
 
-  abbrev open_now : ℕ → Bool
-  open_now = open_starts plan (events ++ event ∷ []) items (Some (At event.ts))
+  -- the start at the new event is open, and so is the last position
+  pub open_new : is_start_alive plan.skip items (length events) ≡ true → HasRoom plan
+      → open_starts plan (events ++ event ∷ []) items (Some (At event.ts)) (length events) ≡ true
+  open_new lives room = λ i. lives i
+      && (ap (λ e. is_time_left (limit_from plan e) (Some now)) (at_new events event) ∙ new_open plan.within event.ts room.0) i
 
-  at_new : event_at (events ++ event ∷ []) (length events) ≡ event
-  at_new = get_or_push events event no_event (length events) refl
-
-  -- the start at the new event is open
-  pub open_new : is_start_alive plan.skip items (length events) ≡ true → IfSome plan.within (λ w. 0 < w) → open_now (length events) ≡ true
-  open_new lives limit = λ i. lives i && (ap (λ e. is_time_left (limit_from plan e) (Some (At event.ts))) at_new ∙ new_open plan.within event.ts limit) i
+  pub open_new_last : HasRoom plan → open_lasts plan (events ++ event ∷ []) (Some (At event.ts)) (length events) ≡ true
+  open_new_last room = ap (λ e. is_time_left (limit_behind plan e) (Some now)) (at_new events event) ∙ new_open plan.within_gap event.ts room.1
 
   -- the others are as before
-  open_old : (p : ℕ) → p < length events → open_starts plan events items (Some (At event.ts)) p ≡ open_now p
+  pub open_old : (p : ℕ) → p < length events
+      → open_starts plan events items (Some (At event.ts)) p ≡ open_starts plan (events ++ event ∷ []) items (Some (At event.ts)) p
   open_old p lt =
-      ap (λ e. is_start_alive plan.skip items p && is_time_left (limit_from plan e) (Some (At event.ts)))
-      (sym (event_at-append events (event ∷ []) p lt))
+      ap (λ e. is_start_alive plan.skip items p && is_time_left (limit_from plan e) (Some now)) (sym (event_at-append events (event ∷ []) p lt))
+
+  pub open_old_last : (p : ℕ) → p < length events
+      → open_lasts plan events (Some (At event.ts)) p ≡ open_lasts plan (events ++ event ∷ []) (Some (At event.ts)) p
+  open_old_last p lt = ap (λ e. is_time_left (limit_behind plan e) (Some now)) (sym (event_at-append events (event ∷ []) p lt))
 
   pub RunsStand-event : (content : Content) (buffer : BufferContent)
-      → RunsStand plan events (open_starts plan events items (Some (At event.ts))) content buffer → RunsStand plan events open_now content buffer
+      → RunsStand plan events (open_scope plan events items (Some (At event.ts))) content buffer
+      → RunsStand plan events (open_scope plan (events ++ event ∷ []) items (Some (At event.ts))) content buffer
   RunsStand-event content buffer stands =
-      RunsStand-agree plan events (open_starts plan events items (Some (At event.ts))) open_now content buffer open_old stands
+      RunsStand-agree plan events (open_scope plan events items (Some now)) (open_scope plan (events ++ event ∷ []) items (Some now)) content buffer
+      open_old open_old_last stands
 
-  -- the starts with the new one
-  pub starts_among-event : open_now (length events) ≡ true
-      → starts_among plan events (open_starts plan events items (Some (At event.ts)))
-      ++ limited plan.within (record { position = length events; ts = event.ts } ∷ []) ≡ starts_among plan (events ++ event ∷ []) open_now
-  starts_among-event is_open = by_limit plan.within where
-    old : ℕ → Bool
-    old = open_starts plan events items (Some (At event.ts))
-
-    positions : List ℕ
-    positions = range_with_len 0 (length events)
-
-    same_starts : filter old (range_with_len 0 (length events)) ≡ filter open_now (range_with_len 0 (length events))
-    same_starts =
-        filter-same old open_now (range_with_len 0 (length events))
-        (Each-into (λ p. p < length events) (λ p. old p ≡ open_now p) (range_with_len 0 (length events)) open_old (positions_below (length events)))
-
-    same_at :
-        map (start_at events) (filter open_now (range_with_len 0 (length events)))
-        ≡ map (start_at (events ++ event ∷ [])) (filter open_now (range_with_len 0 (length events)))
-    same_at =
-        map-same (start_at events) (start_at (events ++ event ∷ [])) (filter open_now (range_with_len 0 (length events)))
-        (Each-into (λ p. p < length events) (λ p. start_at events p ≡ start_at (events ++ event ∷ []) p) (filter open_now (range_with_len 0 (length events)))
-        (λ p lt. λ i. record { position = p; ts = (sym (event_at-append events (event ∷ []) p lt) i).ts })
-        (Each-filter (λ (p : ℕ). p < length events) open_now (range_with_len 0 (length events)) (positions_below (length events))))
-
-    new_start : record { position = length events; ts = event.ts } ≡ start_at (events ++ event ∷ []) (length events)
-    new_start = λ i. record { position = length events; ts = (sym at_new i).ts }
-
-    one_more : filter open_now (range_with_len 0 (length (events ++ event ∷ []))) ≡ filter open_now (range_with_len 0 (length events)) ++ length events ∷ []
-    one_more =
-        ap (λ n. filter open_now (range_with_len 0 n)) (length-append events (event ∷ [])) ∙ ap (filter open_now) (positions_push (length events))
-        ∙ filter-append open_now (range_with_len 0 (length events)) (length events ∷ [])
-        ∙ ap (λ b. filter open_now (range_with_len 0 (length events)) ++ cond b (length events ∷ []) []) is_open
-
-    all :
-        map (start_at events) (filter old (range_with_len 0 (length events))) ++ record { position = length events; ts = event.ts } ∷ []
-        ≡ map (start_at (events ++ event ∷ [])) (filter open_now (range_with_len 0 (length (events ++ event ∷ []))))
-    all =
-        (λ i. (ap (map (start_at events)) same_starts ∙ same_at) i ++ new_start i ∷ [])
-        ∙ sym (ap (map (start_at (events ++ event ∷ []))) one_more
-        ∙ map-joined (start_at (events ++ event ∷ [])) (filter open_now (range_with_len 0 (length events))) (length events ∷ []))
-
-    by_limit : (within : Option ℕ)
-        → limited within (map (start_at events) (filter old (range_with_len 0 (length events))))
-        ++ limited within (record { position = length events; ts = event.ts } ∷ [])
-        ≡ limited within (map (start_at (events ++ event ∷ [])) (filter open_now (range_with_len 0 (length (events ++ event ∷ [])))))
-    by_limit None = refl
-    by_limit (Some w) = all
+  -- what is kept of them
+  pub saved_for-event : is_start_alive plan.skip items (length events) ≡ true → HasRoom plan
+      → record {
+        within = plan.within;
+        gap = plan.within_gap;
+        starts = places_among plan.within events (open_scope plan events items (Some (At event.ts))).starts
+            ++ limited plan.within (record { position = length events; ts = event.ts } ∷ []);
+        lasts = places_among plan.within_gap events (open_scope plan events items (Some (At event.ts))).lasts
+            ++ limited plan.within_gap (record { position = length events; ts = event.ts } ∷ []);
+      } ≡ saved_for plan (events ++ event ∷ []) (open_scope plan (events ++ event ∷ []) items (Some (At event.ts)))
+  saved_for-event lives room = λ i. record {
+    within = plan.within;
+    gap = plan.within_gap;
+    starts = places_among-event plan.within events event (open_starts plan events items (Some now))
+        (open_starts plan (events ++ event ∷ []) items (Some now)) open_old (open_new lives room) i;
+    lasts = places_among-event plan.within_gap events event (open_lasts plan events (Some now))
+        (open_lasts plan (events ++ event ∷ []) (Some now)) open_old_last (open_new_last room) i;
+  }
 
 -- ---- starts that are killed
 
@@ -279,19 +218,11 @@ kill_order true true false = refl
 kill_order true false true = refl
 kill_order true false false = refl
 
-pub starts_among-killed : (plan : Plan) (events : List Event) (alive left killed after : ℕ → Bool)
-    → ((p : ℕ) → after p ≡ ((alive p && not (killed p)) && left p))
-    → filter (λ s. not (killed s.position)) (starts_among plan events (λ p. alive p && left p)) ≡ starts_among plan events after
-starts_among-killed plan events alive left killed after same = by_limit plan.within where
-  positions : List ℕ
-  positions = range_with_len 0 (length events)
-
-  by_limit : (within : Option ℕ)
-      → filter (λ s. not (killed s.position)) (limited within
-      (map (start_at events) (filter (λ p. alive p && left p) (range_with_len 0 (length events)))))
-      ≡ limited within (map (start_at events) (filter after (range_with_len 0 (length events))))
-  by_limit None = refl
-  by_limit (Some w) =
-      filter-map (λ (s : Start). not (killed s.position)) (start_at events) (filter (λ p. alive p && left p) (range_with_len 0 (length events)))
-      ∙ ap (map (start_at events)) (filter-filter (λ p. not (killed p)) (λ p. alive p && left p) (range_with_len 0 (length events))
-      ∙ ap (λ t. filter t (range_with_len 0 (length events))) (λ i p. (kill_bits (killed p) (alive p) (left p) ∙ sym (same p)) i))
+pub places_among-killed : (limit : Option ℕ) (events : List Event) (alive left killed : ℕ → Bool)
+    → filter (λ s. not (killed s.position)) (places_among limit events (λ p. alive p && left p))
+    ≡ places_among limit events (λ p. (alive p && not (killed p)) && left p)
+places_among-killed None events alive left killed = refl
+places_among-killed (Some l) events alive left killed =
+    filter-map (λ (s : Place). not (killed s.position)) (place_at events) (filter (λ p. alive p && left p) (range_with_len 0 (length events)))
+    ∙ ap (map (place_at events)) (filter-filter (λ p. not (killed p)) (λ p. alive p && left p) (range_with_len 0 (length events))
+    ∙ ap (λ t. filter t (range_with_len 0 (length events))) (λ i p. kill_bits (killed p) (alive p) (left p) i))

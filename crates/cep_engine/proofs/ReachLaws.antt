@@ -16,12 +16,14 @@ use Rattle.cep_plan.specs.declared.plan.Skip.{Skip}
 use Rattle.cep_plan.specs.declared.item.Taken.{Taken}
 use Rattle.cep_plan.specs.declared.item.Item.TheVariants.{Match}
 use Rattle.cep_plan.specs.Entry.{Entry, taken_of}
-use Rattle.cep_plan.specs.History.{matches_at, ends_at}
+use Rattle.cep_plan.specs.History.{matches_at, ends_at, closed_at}
 use Rattle.cep_plan.specs.Order.{list_cmp}
-use Rattle.cep_plan.specs.Partial.{is_match}
+use Rattle.cep_plan.specs.Partial.{is_complete}
 use Rattle.cep_plan.specs.Skipping.{start_of, kills, kills_start, is_killed, item_kills}
 use Rattle.cep_plan.proofs.RisingLaws.{rising_lists-sorted}
+use Rattle.cep_event.specs.declared.record.Moment.{Moment}
 use Rattle.live_laws.specs.Starts.{begins_in}
+use Rattle.live_laws.proofs.TimeoutLaws.{closes_now}
 use Rattle.skip_strategy.specs.Range.{is_in}
 use Rattle.cep_engine.specs.Reach.{StartsNoLater, AreInStartOrder, StartsBy, KillBelow, farther, starts_below}
 use Rattle.cep_engine.specs.Small.{AreSmall}
@@ -49,7 +51,8 @@ module _ (events : List Event) where
     by_order : (b < a) ⊎ (a ≤ b) → a ≤ b
     by_order (inr le) = le
     by_order (inl lt) =
-        let greater : nat_cmp a b ≡ Greater = (λ i. cond (le-ltb a b (omega (arith, lt)) i) Less (cond (ne_eqb a b (λ e. omega (arith, e, lt)) i) Equal Greater)) in
+        let greater : nat_cmp a b ≡ Greater = (λ i. cond (le-ltb a b (omega (arith, lt)) i) Less
+        (cond (ne_eqb a b (λ e. omega (arith, e, lt)) i) Equal Greater)) in
         let no : Greater ≡ Less = ap (λ o. ordering_then o rest) (sym greater) ∙ less in
         absurd cc
 
@@ -81,8 +84,16 @@ pub matches_in_order : (plan : Plan) (events : List Event) (event : Event) (star
 matches_in_order plan events event starts =
     in_start_order (events ++ event ∷ []) (filter (begins_in starts) (matches_at plan events event))
     (IsStrictlySortedBy-filter list_cmp (begins_in starts) (matches_at plan events event)
-    (IsStrictlySortedBy-filter list_cmp (λ list. ends_at (length events) list && is_match plan (events ++ event ∷ []) list) _
+    (IsStrictlySortedBy-filter list_cmp (λ list. ends_at (length events) list && is_complete plan (events ++ event ∷ []) list) _
     (rising_lists-sorted (length plan.stages) 0 (length events + 1))))
+
+-- and so are the closed matches
+pub closed_in_order : (plan : Plan) (events : List Event) (before : Option Moment) (now : Moment) (starts : ℕ → Bool)
+    → AreInStartOrder (map (taken_of events) (filter (begins_in starts) (closed_at plan events before now)))
+closed_in_order plan events before now starts =
+    in_start_order events (filter (begins_in starts) (closed_at plan events before now))
+    (IsStrictlySortedBy-filter list_cmp (begins_in starts) (closed_at plan events before now)
+    (IsStrictlySortedBy-filter list_cmp (closes_now plan events before now) _ (rising_lists-sorted (length plan.stages) 0 (length events))))
 
 -- ---- what the kept matches kill
 

@@ -170,7 +170,8 @@ pub freed_turn : (tips : List Tip) (tip : Tip) (rest later : List Tip) {left aft
 freed_turn tips tip rest later old buffer new parts counted before released keeps = record {
   counted = counted;
   freeing = λ plan events holders held are.
-      let one = frees_one plan events held tip later buffer (subst (λ (l : List Tip). Freeing plan events held l buffer) parts (before.freeing plan events holders held are)) in
+      let one = frees_one plan events held tip later buffer (subst (λ (l : List Tip). Freeing plan events held l buffer) parts
+      (before.freeing plan events holders held are)) in
       one.after new (released plan events one.holder one.before one.is);
   pins = KeepsPins-trans old buffer new before.pins keeps;
 }

@@ -1,6 +1,5 @@
 pub mod Standing
 pub mod State
-pub mod Due
 pub mod Small
 pub mod Reach
 pub mod Running

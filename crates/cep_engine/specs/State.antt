@@ -1,14 +1,12 @@
 -- What an engine is seen as, and the ticks that it stands for. (This project's own.)
 use Rattle.std.specs.Prelude.{ℕ, ℤ, ◌<◌, ◌≡◌, Bool, true, int_le, List, [], Option, Some, None, option_map, IfSome}
-use Rattle.std.specs.List.{AllByRecursion as Each}
 use Rattle.cep_event.specs.declared.record.Moment.TheVariants.{At}
 use Rattle.cep_plan.specs.declared.plan.Plan.{Plan}
 use Rattle.cep_plan.specs.declared.item.Item.{Item}
 use Rattle.cep_plan.specs.Tick.{Tick, last_time}
 use Rattle.shared_buffer.specs.Content.{Content as BufferContent}
 use Rattle.run_step.specs.Content.{Content}
-use Rattle.time_limit.specs.declared.limits.Start.{Start}
-use Rattle.time_limit.specs.Limits.{Kept}
+use Rattle.time_limit.specs.Limits.{Kept, AreBefore}
 use Rattle.cep_engine.specs.Standing.{PartsStand}
 
 -- the plan, the runs, the buffer, the limits, the time of the last tick, the items not yet handed out, and whether an earlier call met want of memory
@@ -35,11 +33,15 @@ pub record StandsForSome (state : State) : Type 0 where
 abbrev pub IsNotBefore : Option ℤ → ℤ → Type 0
 IsNotBefore last time = IfSome last (λ earlier. int_le earlier time ≡ true)
 
--- Each start is below the position, and its time isn't above the last one. Before the first tick there is none.
-abbrev pub AreBehind : ℕ → Option ℤ → List Start → Type 0
-AreBehind position None starts = starts ≡ []
-AreBehind position (Some time) starts = Each (λ start. (start.position < position) × (int_le start.ts time ≡ true)) starts
+-- All that is kept is below the position, and no time of it is above this one.
+abbrev pub AreKeptBefore : ℕ → ℤ → Kept → Type 0
+AreKeptBefore position time kept = AreBefore position time kept.starts × AreBefore position time kept.lasts
 
--- the time limit isn't 0
+-- Before the first tick nothing is kept; after it no time is above the last one.
+abbrev pub AreBehind : ℕ → Option ℤ → Kept → Type 0
+AreBehind position None kept = (kept.starts ≡ []) × (kept.lasts ≡ [])
+AreBehind position (Some time) kept = AreKeptBefore position time kept
+
+-- no time limit is 0
 abbrev pub HasRoom : Plan → Type 0
-HasRoom plan = IfSome plan.within (λ within. 0 < within)
+HasRoom plan = IfSome plan.within (λ within. 0 < within) × IfSome plan.within_gap (λ gap. 0 < gap)

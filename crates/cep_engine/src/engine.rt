@@ -1,16 +1,16 @@
-ghost use Rattle.std.specs.Prelude.{◌+◌, ◌≡◌, ◌<◌, ◌≤◌, ◌-◌, ◌^◌, ◌++◌, ◌↔◌, [], ◌∷◌, List, Some, None, true, false, length, IsTrue, IfOk, OnOk, OnErr};
+ghost use Rattle.std.specs.Prelude.{◌+◌, ◌≡◌, ◌<◌, ◌≤◌, ◌-◌, ◌^◌, ◌++◌, ◌↔◌, [], ◌∷◌, List, Some, None, true, false, length, IsTrue, IfOk, IfSome, OnOk, OnErr};
 ghost use Rattle.std.specs.Prelude.{Ok, Err};
 ghost use Rattle.cep_event.specs.declared.record.Moment.TheVariants.{At, End};
 ghost use Rattle.cep_plan.specs.Tick.{Tick, event_tick, mark_tick};
 ghost use Rattle.nfa_compile.specs.State.{IsCompilable};
 ghost use Rattle.sharing_laws.specs.Sharing.{SharesExactly, held_in};
 ghost use Rattle.sharing_laws.specs.Sizes.{sizes_after};
-ghost use Rattle.cep_engine.specs.Standing.{kept_at};
+ghost use Rattle.cep_plan.specs.Keys.{kept_at};
 ghost use Rattle.cep_engine.specs.State.{StandsFor, IsNotBefore, HasRoom};
 ghost use Rattle.cep_engine.specs.declared.engine.EngineFault.TheVariants.{Spent};
 ghost use Rattle.cep_engine.specs.declared.engine.EngineFault.TheVariants as fault;
 
-use crate::tick::{take_event, take_mark};
+use crate::tick::{append, take_event, take_mark};
 use cep_event::{Event, Moment, NoMemory};
 use cep_plan::{ItemList, Plan};
 use cond_sums::Asked;
@@ -34,28 +34,21 @@ pub enum EngineFault {
     Spent,
 }
 
-/// Whether the pattern has no time limit, or one above 0.
-pub fn has_room(plan: &Plan) -> bool
-    ensures { IsTrue result ↔ HasRoom plan.now }
+/// Whether there is no such time limit, or one above 0.
+pub fn is_above_zero(limit: Option<u64>) -> bool
+    ensures { IsTrue result ↔ IfSome limit (λ l. 0 < l) }
 {
-    match plan.within {
+    match limit {
         None => true,
-        Some(within) => within > 0,
+        Some(limit) => limit > 0,
     }
 }
 
-/// Adds these items at the end. Where memory is wanted none is added.
-pub fn append(items: &mut ItemList, more: ItemList) -> Result<(), NoMemory>
-    ensures ok { OnOk result (items.new ≡ items.old ++ more) }
-    ensures err { OnErr result (items.new ≡ items.old) }
+/// Whether each time limit of the pattern is above 0.
+pub fn has_room(plan: &Plan) -> bool
+    ensures { IsTrue result ↔ HasRoom plan.now }
 {
-    let empty = items.emptied();
-    let mut all = mem::replace(items, empty).into_vec();
-    let mut more = more.into_vec();
-    let outcome = all.append(&mut more);
-    *items = ItemList::from_vec(all);
-    outcome?;
-    Ok(())
+    is_above_zero(plan.within) && is_above_zero(plan.within_gap)
 }
 
 /// Takes ticks, one after another, and tells the items that the skip strategy keeps.
@@ -89,7 +82,7 @@ impl Model for Engine {
 
     ghost view = { λ e. record { plan = e.plan; runs = e.runs; buffer = e.buffer; limits = e.limits; last = e.last; items = e.items; spent = e.spent } };
 
-    ghost invariant = { λ e. record { plan : IsCompilable e.plan; nfa : e.nfa ≡ automaton_of e.plan; room : HasRoom e.plan; behind : e.spent ≡ false → AreBehind e.runs.position e.last e.limits.starts; stands : e.spent ≡ false → StandsForSome (record { plan = e.plan; runs = e.runs; buffer = e.buffer; limits = e.limits; last = e.last; items = e.items; spent = e.spent }) } };
+    ghost invariant = { λ e. record { plan : IsCompilable e.plan; nfa : e.nfa ≡ automaton_of e.plan; room : HasRoom e.plan; behind : e.spent ≡ false → AreBehind e.runs.position e.last e.limits; stands : e.spent ≡ false → StandsForSome (record { plan = e.plan; runs = e.runs; buffer = e.buffer; limits = e.limits; last = e.last; items = e.items; spent = e.spent }) } };
 }
 
 impl Engine {
@@ -105,7 +98,7 @@ impl Engine {
         let asked = Asked::of(alloc, &plan)?;
         let runs = RunSet::new(alloc, &nfa, &asked)?;
         let buffer = Buffer::new(alloc);
-        let limits = Limits::new(alloc, plan.within);
+        let limits = Limits::new(alloc, plan.within, plan.within_gap);
         let items = ItemList::new(alloc);
         Ok(Engine {
             alloc,
@@ -206,6 +199,7 @@ impl Engine {
             &mut self.buffer,
             &mut self.limits,
             &self.nfa,
+            &self.plan,
             now,
             self.alloc,
         )?;
@@ -316,6 +310,7 @@ impl Engine {
             &mut engine.buffer,
             &mut engine.limits,
             &engine.nfa,
+            &engine.plan,
             Moment::End,
             engine.alloc,
         )?;

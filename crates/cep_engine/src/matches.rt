@@ -5,10 +5,11 @@ ghost use Rattle.cep_event.specs.declared.event.Event.{Event};
 ghost use Rattle.cep_plan.specs.declared.plan.Plan.{Plan};
 ghost use Rattle.cep_plan.specs.declared.item.Item.TheVariants.{Match, Timeout};
 ghost use Rattle.cep_plan.specs.Skipping.{kept};
-ghost use Rattle.live_laws.specs.Starts.{item_kills_start};
+ghost use Rattle.live_laws.specs.Starts.{Scope, item_kills_start};
 ghost use Rattle.skip_strategy.specs.Range.{is_in};
 ghost use Rattle.cep_engine.specs.Small.{AreSmall};
-ghost use Rattle.cep_engine.specs.Running.{RunsStand, RunsStandSome};
+ghost use Rattle.cep_engine.specs.Running.{RunsStand, RunsStandSome, without_starts};
+ghost use Rattle.cep_engine.specs.State.{AreKeptBefore};
 ghost use Rattle.cep_engine.specs.Reach.{AreInStartOrder, farther, starts_below};
 
 use cep_event::NoMemory;
@@ -59,8 +60,8 @@ pub fn kept_matches(skip: Skip, lists: TakenLists) -> Result<TakenLists, NoMemor
 /// Lets the runs go that start in the range, and what the buffer held for them. It takes no memory.
 pub fn kill_range(runs: &mut RunSet, buffer: &mut Buffer, range: Option<(u32, u32)>)
     requires { RunsStandSome runs.old buffer.old }
-    ensures runs { (plan : Plan) (events : List Event) (starts : ℕ → Bool) → RunsStand plan events starts runs.old buffer.old
-        → RunsStand plan events (λ p. starts p && not (is_in range p)) runs.new buffer.new }
+    ensures runs { (plan : Plan) (events : List Event) (scope : Scope) → RunsStand plan events scope runs.old buffer.old
+        → RunsStand plan events (without_starts scope (is_in range)) runs.new buffer.new }
     ensures position { runs.new.position ≡ runs.old.position }
 {
     match range {
@@ -82,8 +83,8 @@ pub fn drop_starts(limits: &mut Limits, range: Option<(u32, u32)>)
 /// Lets the runs go that the matches kill, and what the buffer held for them. It takes no memory.
 pub fn kill_runs(runs: &mut RunSet, buffer: &mut Buffer, skip: Skip, found: &TakenLists)
     requires { RunsStandSome runs.old buffer.old }
-    ensures runs { AreSmall found.now → (plan : Plan) (events : List Event) (starts : ℕ → Bool) → RunsStand plan events starts runs.old buffer.old
-        → RunsStand plan events (λ p. starts p && not (list_any (item_kills_start skip p) (map Match found.now))) runs.new buffer.new }
+    ensures runs { AreSmall found.now → (plan : Plan) (events : List Event) (scope : Scope) → RunsStand plan events scope runs.old buffer.old
+        → RunsStand plan events (without_starts scope (λ p. list_any (item_kills_start skip p) (map Match found.now))) runs.new buffer.new }
     ensures position { runs.new.position ≡ runs.old.position }
 {
     for list in found.as_slice() {
@@ -96,8 +97,7 @@ pub fn drop_killed(limits: &mut Limits, skip: Skip, found: &TakenLists)
     ensures left { AreSmall found.now
         → limits.new
         ≡ record limits.old { starts = filter (λ s. not (list_any (item_kills_start skip s.position) (map Match found.now))) limits.old.starts } }
-    ensures behind { (position : ℕ) (time : ℤ) → Each (λ s. (s.position < position) × (int_le s.ts time ≡ true)) limits.old.starts
-        → Each (λ s. (s.position < position) × (int_le s.ts time ≡ true)) limits.new.starts }
+    ensures behind { (position : ℕ) (time : ℤ) → AreKeptBefore position time limits.old → AreKeptBefore position time limits.new }
 {
     for list in found.as_slice() {
         drop_starts(limits, cut(skip, list));

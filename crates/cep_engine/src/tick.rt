@@ -1,50 +1,129 @@
 //! One tick: what it makes of the runs, the buffer and the limits, and its kept items.
-ghost use Rattle.std.specs.Prelude.{ℤ, ◌≡◌, ◌<◌, ◌≤◌, ◌+◌, ◌-◌, ◌^◌, ◌++◌, [], ◌∷◌, List, true, int_le, length, IfOk, IfSome};
-ghost use Rattle.std.specs.List.{AllByRecursion as Each};
+ghost use Rattle.std.specs.Prelude.{ℕ, ℤ, ◌≡◌, ◌<◌, ◌+◌, ◌-◌, ◌^◌, ◌++◌, [], ◌∷◌, List, Option, Some, IfOk, OnOk, OnErr, map};
+ghost use Rattle.cep_event.specs.declared.event.Event.{Event as EventRow};
+ghost use Rattle.cep_event.specs.declared.record.Moment.{Moment as MomentRow};
 ghost use Rattle.cep_event.specs.declared.record.Moment.TheVariants.{At};
-ghost use Rattle.cep_plan.specs.declared.plan.Plan.{Plan as PlanRow};
+ghost use Rattle.cep_plan.specs.declared.item.Item.{Item};
+ghost use Rattle.cep_plan.specs.declared.item.Item.TheVariants.{Match};
+ghost use Rattle.cep_plan.specs.Entry.{taken_of};
+ghost use Rattle.cep_plan.specs.History.{due_items, matches_at};
+ghost use Rattle.cep_plan.specs.Keys.{kept_at};
+ghost use Rattle.cep_plan.specs.Skipping.{kept_after};
 ghost use Rattle.cep_plan.specs.Tick.{Tick, event_tick, mark_tick};
 ghost use Rattle.nfa_compile.specs.State.{IsCompilable};
 ghost use Rattle.nfa_compile.specs.Automaton.{automaton_of};
-ghost use Rattle.cep_engine.specs.Standing.{kept_at, PartsStand, PartsStandSome, ComesLater, CanTakeEvent};
+ghost use Rattle.cep_engine.specs.Standing.{PartsAre, PartsAreSome, PartsStand, CanTakeNext, CanTakeEvent, IsLater, ComesLater};
+ghost use Rattle.cep_engine.specs.State.{AreKeptBefore, HasRoom};
 
 use crate::advance::advance;
 use crate::matches::{add_matches, drop_killed, kept_matches, kill_runs};
-use crate::timeouts::time_out;
+use crate::timeouts::{DueLists, add_timeouts, due_lists};
 use cep_event::{Event, Moment, NoMemory};
 use cep_plan::{ItemList, Plan};
 use nfa_compile::Nfa;
+use run_judge::in_order;
 use run_step::RunSet;
 use shared_buffer::Buffer;
 use std::alloc::Global;
+use std::mem;
 use time_limit::Limits;
 
-/// Takes a mark: its kept items are the timeouts.
+/// Takes a moment: its kept items are the timeouts, and then the closed matches.
+pub fn take_moment(
+    runs: &mut RunSet,
+    buffer: &mut Buffer,
+    limits: &mut Limits,
+    nfa: &Nfa,
+    plan: &Plan,
+    now: Moment,
+    alloc: Global,
+) -> Result<ItemList, NoMemory>
+    requires plan { IsCompilable plan.now }
+    requires nfa { nfa.now ≡ automaton_of plan.now }
+    requires stands { PartsAreSome plan.now runs.old buffer.old limits.old }
+    ensures items { (events : List EventRow) (before : List Item) (last : Option MomentRow)
+        → PartsAre plan.now events before last runs.old buffer.old limits.old
+        → IfOk result (λ items. items ≡ kept_after plan.now.skip before (due_items plan.now events last now)) }
+    ensures parts { (events : List EventRow) (before : List Item) (last : Option MomentRow)
+        → PartsAre plan.now events before last runs.old buffer.old limits.old → IsLater last now
+        → IfOk result (λ items. PartsAre plan.now events (before ++ items) (Some now) runs.new buffer.new limits.new) }
+    ensures position { IfOk result (λ items. runs.new.position ≡ runs.old.position) }
+    ensures behind { (position : ℕ) (time : ℤ) → AreKeptBefore position time limits.old → IfOk result (λ items. AreKeptBefore position time limits.new) }
+{
+    // The position is a `u32`, so each event before it has a next one.
+    let _ = runs.position();
+    let DueLists { timeouts, closed } = due_lists(runs, buffer, limits, nfa, now, alloc)?;
+    let ended = kept_matches(plan.skip, in_order(closed)?)?;
+    kill_runs(runs, buffer, plan.skip, &ended);
+    drop_killed(limits, plan.skip, &ended);
+    let late = in_order(timeouts)?;
+    let mut items = ItemList::new(alloc);
+    add_timeouts(&mut items, late)?;
+    add_matches(&mut items, ended)?;
+    Ok(items)
+}
+
+/// Takes an event at whose time nothing is due: its kept items are the matches that it completes.
+pub fn take_next(
+    runs: &mut RunSet,
+    buffer: &mut Buffer,
+    limits: &mut Limits,
+    nfa: &Nfa,
+    plan: &Plan,
+    event: Event,
+    alloc: Global,
+) -> Result<ItemList, NoMemory>
+    requires plan { IsCompilable plan.now }
+    requires nfa { nfa.now ≡ automaton_of plan.now }
+    requires limit { HasRoom plan.now }
+    requires room { runs.old.position < 2 ^ 32 - 1 }
+    requires behind { AreKeptBefore runs.old.position event.ts limits.old }
+    requires stands { CanTakeNext plan.now event runs.old buffer.old limits.old }
+    ensures items { (events : List EventRow) (before : List Item) → PartsAre plan.now events before (Some (At event.ts)) runs.old buffer.old limits.old
+        → IfOk result (λ items. items
+        ≡ kept_after plan.now.skip before (map (λ list. Match (taken_of (events ++ event ∷ []) list)) (matches_at plan.now events event))) }
+    ensures parts { (events : List EventRow) (before : List Item) → PartsAre plan.now events before (Some (At event.ts)) runs.old buffer.old limits.old
+        → IfOk result (λ items. PartsAre plan.now (events ++ event ∷ []) (before ++ items) (Some (At event.ts)) runs.new buffer.new limits.new) }
+    ensures position { IfOk result (λ items. runs.new.position ≡ runs.old.position + 1) }
+    ensures behind { IfOk result (λ items. AreKeptBefore runs.new.position event.ts limits.new) }
+{
+    let position = runs.position();
+    let time = event.ts;
+    let lists = advance(runs, buffer, nfa, plan, event, alloc)?;
+    let found = kept_matches(plan.skip, lists)?;
+    limits.add(position, time)?;
+    kill_runs(runs, buffer, plan.skip, &found);
+    drop_killed(limits, plan.skip, &found);
+    let mut items = ItemList::new(alloc);
+    add_matches(&mut items, found)?;
+    Ok(items)
+}
+
+/// Takes a mark: its kept items are those of its moment.
 pub fn take_mark(
     runs: &mut RunSet,
     buffer: &mut Buffer,
     limits: &mut Limits,
     nfa: &Nfa,
+    plan: &Plan,
     now: Moment,
     alloc: Global,
 ) -> Result<ItemList, NoMemory>
-    requires behind { Each (λ s. s.position < runs.old.position) limits.old.starts }
-    requires stands { PartsStandSome nfa.now runs.old buffer.old limits.old }
-    ensures items { (plan : PlanRow) (ticks : List Tick) → IsCompilable plan → nfa.now ≡ automaton_of plan
-        → PartsStand plan ticks runs.old buffer.old limits.old → IfOk result (λ items. items ≡ kept_at plan ticks (mark_tick now)) }
-    ensures parts { (plan : PlanRow) (ticks : List Tick) → PartsStand plan ticks runs.old buffer.old limits.old → ComesLater ticks now
-        → IfOk result (λ items. PartsStand plan (ticks ++ mark_tick now ∷ []) runs.new buffer.new limits.new) }
+    requires plan { IsCompilable plan.now }
+    requires nfa { nfa.now ≡ automaton_of plan.now }
+    requires stands { PartsAreSome plan.now runs.old buffer.old limits.old }
+    ensures items { (ticks : List Tick) → PartsStand plan.now ticks runs.old buffer.old limits.old
+        → IfOk result (λ items. items ≡ kept_at plan.now ticks (mark_tick now)) }
+    ensures parts { (ticks : List Tick) → PartsStand plan.now ticks runs.old buffer.old limits.old → ComesLater ticks now
+        → IfOk result (λ items. PartsStand plan.now (ticks ++ mark_tick now ∷ []) runs.new buffer.new limits.new) }
     ensures position { IfOk result (λ items. runs.new.position ≡ runs.old.position) }
-    ensures behind { (time : ℤ) → Each (λ s. (s.position < runs.old.position) × (int_le s.ts time ≡ true)) limits.old.starts
-        → IfOk result (λ items. Each (λ s. (s.position < runs.new.position) × (int_le s.ts time ≡ true)) limits.new.starts) }
+    ensures behind { (position : ℕ) (time : ℤ) → AreKeptBefore position time limits.old → IfOk result (λ items. AreKeptBefore position time limits.new) }
 {
-    // The position is a `u32`, so each start before it has a next one.
-    let _ = runs.position();
-    let items = time_out(runs, buffer, limits, nfa, now, alloc)?;
+    let items = take_moment(runs, buffer, limits, nfa, plan, now, alloc)?;
     Ok(items)
 }
 
-/// Takes an event: first the timeouts at its time, then the matches that it ends.
+/// Takes an event: first all that its time ends, and then the matches that it completes.
 pub fn take_event(
     runs: &mut RunSet,
     buffer: &mut Buffer,
@@ -56,25 +135,34 @@ pub fn take_event(
 ) -> Result<ItemList, NoMemory>
     requires plan { IsCompilable plan.now }
     requires nfa { nfa.now ≡ automaton_of plan.now }
-    requires within { IfSome plan.now.within (λ w. 0 < w) }
+    requires limit { HasRoom plan.now }
     requires room { runs.old.position < 2 ^ 32 - 1 }
-    requires behind { Each (λ s. (s.position < runs.old.position) × (int_le s.ts event.ts ≡ true)) limits.old.starts }
+    requires behind { AreKeptBefore runs.old.position event.ts limits.old }
     requires stands { CanTakeEvent plan.now event runs.old buffer.old limits.old }
     ensures items { (ticks : List Tick) → PartsStand plan.now ticks runs.old buffer.old limits.old → ComesLater ticks (At event.ts)
         → IfOk result (λ items. items ≡ kept_at plan.now ticks (event_tick event)) }
     ensures parts { (ticks : List Tick) → PartsStand plan.now ticks runs.old buffer.old limits.old → ComesLater ticks (At event.ts)
         → IfOk result (λ items. PartsStand plan.now (ticks ++ event_tick event ∷ []) runs.new buffer.new limits.new) }
     ensures position { IfOk result (λ items. runs.new.position ≡ runs.old.position + 1) }
-    ensures behind { IfOk result (λ items. Each (λ s. (s.position < runs.new.position) × (int_le s.ts event.ts ≡ true)) limits.new.starts) }
+    ensures behind { IfOk result (λ items. AreKeptBefore runs.new.position event.ts limits.new) }
 {
-    let position = runs.position();
     let time = event.ts;
-    let mut items = time_out(runs, buffer, limits, nfa, Moment::At(time), alloc)?;
-    let lists = advance(runs, buffer, nfa, plan, event, alloc)?;
-    let found = kept_matches(plan.skip, lists)?;
-    limits.add(position, time)?;
-    kill_runs(runs, buffer, plan.skip, &found);
-    drop_killed(limits, plan.skip, &found);
-    add_matches(&mut items, found)?;
+    let mut items = take_moment(runs, buffer, limits, nfa, plan, Moment::At(time), alloc)?;
+    let matches = take_next(runs, buffer, limits, nfa, plan, event, alloc)?;
+    append(&mut items, matches)?;
     Ok(items)
+}
+
+/// Adds these items at the end. Where memory is wanted none is added.
+pub fn append(items: &mut ItemList, more: ItemList) -> Result<(), NoMemory>
+    ensures ok { OnOk result (items.new ≡ items.old ++ more) }
+    ensures err { OnErr result (items.new ≡ items.old) }
+{
+    let empty = items.emptied();
+    let mut all = mem::replace(items, empty).into_vec();
+    let mut more = more.into_vec();
+    let outcome = all.append(&mut more);
+    *items = ItemList::from_vec(all);
+    outcome?;
+    Ok(())
 }

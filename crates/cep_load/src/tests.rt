@@ -36,6 +36,8 @@ fn plan(alloc: Global, shapes: &[(&str, &str)]) -> Result<Plan, NoMemory> {
         stages: StageList::new(alloc),
         negations: NegationList::new(alloc),
         within: None,
+        within_gap: None,
+        by: None,
         skip: Skip::No,
         select: None,
     })

@@ -1,4 +1,5 @@
--- A list is judged by the events up to its last one alone: later events change nothing.
+-- A list is judged by the events up to its last one alone: later events change nothing. (But matches that close: these are judged by the events below
+-- their limit.)
 use Rattle.std.proofs.Common.{◌≡◌, refl, sym, ◌∙◌, ap, ℕ, ◌+◌, ◌-◌, ◌<◌, ◌≤◌, arith, true, ◌&&◌, ◌⊎◌, inl, inr, List, [], ◌∷◌, ◌++◌, length, take, drop, length-append, length-drop, ltb, nat_lt}
 use Rattle.std.specs.Prelude.{Option, Some, None, slice_range}
 use Rattle.std.specs.List.{AllByRecursion as Each}
@@ -13,7 +14,7 @@ use Rattle.cep_plan.specs.Follow.{may_follow, is_full}
 use Rattle.cep_plan.specs.Candidate.{fits}
 use Rattle.cep_plan.specs.Gap.{gap_holds, gap_spares, gap_between}
 use Rattle.cep_plan.specs.Limit.{are_in_time}
-use Rattle.cep_plan.specs.Partial.{comes_later, extends, extends_all, has_entries, may_grow, is_partial, is_match}
+use Rattle.cep_plan.specs.Partial.{comes_later, extends, extends_all, has_entries, may_grow, is_partial, is_complete}
 
 -- each entry is at one of the events
 abbrev pub AreAmong : List Event → List Entry → Type 0
@@ -95,8 +96,8 @@ pub is_partial-append : (plan : Plan) (events more : List Event) (list : List En
 unfolding is_partial
 is_partial-append plan events more list h = ap (λ b. has_entries list && b) (may_grow-append plan events more list h)
 
--- the same of matches
-pub is_match-append : (plan : Plan) (events more : List Event) (list : List Entry) → AreAmong events list
-    → is_match plan (events ++ more) list ≡ is_match plan events list
-unfolding is_match
-is_match-append plan events more list h = ap (λ b. b && is_full plan (stages_of list)) (is_partial-append plan events more list h)
+-- the same of complete lists
+pub is_complete-append : (plan : Plan) (events more : List Event) (list : List Entry) → AreAmong events list
+    → is_complete plan (events ++ more) list ≡ is_complete plan events list
+unfolding is_complete
+is_complete-append plan events more list h = ap (λ b. b && is_full plan (stages_of list)) (is_partial-append plan events more list h)

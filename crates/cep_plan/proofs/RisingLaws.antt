@@ -85,10 +85,10 @@ higher_stage position low stage le [] h = h
 higher_stage position low stage le (e ∷ _) h = (h.0, omega (arith, h.1))
 
 -- the lists that begin at a position with one of the stages from `low` on
-abbrev block : ℕ → List (List Entry) → ℕ → ℕ → List (List Entry)
+abbrev pub block : ℕ → List (List Entry) → ℕ → ℕ → List (List Entry)
 block from later low n = flat_map (λ stage. begun_with (record { stage = stage; position = from }) later) (range_with_len low n)
 
-block-starts : (from : ℕ) (later : List (List Entry)) (low n : ℕ) → Each (StartsAt from low) (block from later low n)
+pub block-starts : (from : ℕ) (later : List (List Entry)) (low n : ℕ) → Each (StartsAt from low) (block from later low n)
 block-starts from later low zero = tt
 block-starts from later low (suc n) =
     Each-append (StartsAt from low) (begun_with (record { stage = low; position = from }) later) (block from later (low + 1) n)
@@ -236,7 +236,8 @@ Contains-block from later list stage low (suc n) le lt h =
       chosen next (inl is) =
           Contains-append_left (begun_with (record { stage = low; position = from }) later) (block from later (low + 1) n) list
           (subst (λ s. Contains (begun_with (record { stage = s; position = from }) later) list) (sym is) h)
-      chosen next (inr above) = Contains-append_right (begun_with (record { stage = low; position = from }) later) (block from later (low + 1) n) list (next above)
+      chosen next (inr above) = Contains-append_right (begun_with (record { stage = low; position = from }) later) (block from later (low + 1) n) list
+          (next above)
 
 Contains-one : (e : Entry) (later : List (List Entry)) → Contains (begun_with e later) (e ∷ [])
 Contains-one e later = Contains-here (e ∷ []) (map (λ l. e ∷ l) later)

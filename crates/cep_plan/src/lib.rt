@@ -7,6 +7,6 @@ mod matched;
 mod plan;
 
 pub use condition::{Agg, Cmp, Cond, Expr, ExprList, Factor, How, Join, Part, PartList, Term, Val};
-pub use item::{Item, ItemList, Taken, TakenList, before};
+pub use item::{Due, Item, ItemList, Taken, TakenList, before};
 pub use matched::Matched;
 pub use plan::{Contiguity, Negation, NegationList, Plan, Skip, Stage, StageList};

@@ -22,7 +22,8 @@ use Rattle.cep_plan.specs.declared.item.Item.{Item}
 use Rattle.cep_plan.specs.declared.item.Item.TheVariants.{Match, Timeout}
 use Rattle.cep_plan.specs.Skipping.{kept}
 use Rattle.cep_plan.specs.History.{history}
-use Rattle.cep_plan.specs.EventTime.{all_ticks}
+use Rattle.cep_plan.specs.EventTime.{ticks_of, all_ticks}
+use Rattle.cep_plan.specs.Keys.{told_of}
 
 -- ---- events and their types
 
@@ -103,7 +104,8 @@ abbrev pub no_event_of : ℕ → Bool → ℕ → Negation
 no_event_of after next_only type = record { name = []; after = after; next_only = next_only; of = Some type; cond = no_condition }
 
 abbrev pub plan_with : List EventType → List Stage → List Negation → Option ℕ → Skip → Plan
-plan_with types stages negations within skip = record { types = types; stages = stages; negations = negations; within = within; skip = skip; select = None }
+plan_with types stages negations within skip =
+    record { types = types; stages = stages; negations = negations; within = within; within_gap = None; by = None; skip = skip; select = None }
 
 abbrev pub plan_of : List Stage → Plan
 plan_of stages = plan_with letters stages [] None No
@@ -128,3 +130,11 @@ told_with lag plan records = map shown_item (kept plan.skip (history plan (all_t
 
 abbrev pub told : Plan → List LineRecord → List Shown
 told = told_with None
+
+-- the kept items of the ticks that the records give before the end of the input
+abbrev pub told_so_far : Plan → List LineRecord → List Shown
+told_so_far plan records = map shown_item (kept plan.skip (history plan (ticks_of None records)))
+
+-- what all ticks of the records tell, key by key
+abbrev pub told_by_key : Plan → List LineRecord → List Shown
+told_by_key plan records = map shown_item (told_of plan (all_ticks None records))

@@ -26,7 +26,7 @@ use Rattle.cep_print.proofs.Scanned.{front, soft, hard, and_parts, mark}
 use Rattle.cep_print.proofs.Prints.{Printed, Prints-then, Prints-made, Prints-left, Prints-right, Prints-pure, Prints-blank_before, harder, soft_stays, sign_then, sign_last, word_then, unseen, Prints-keyword, Prints-stage_name}
 use Rattle.cep_print.proofs.PrintedNodes.{height, expression_printed}
 use Rattle.cep_print.proofs.PrintedTypes.{Each, ShownItem, rest_items, line_end, types_shown}
-use Rattle.cep_print.proofs.PrintedStages.{stages_height, first_below, later_below, see_pattern, found_pattern, pattern_shown}
+use Rattle.cep_print.proofs.PrintedStages.{stages_height, first_below, later_below, both_limits, see_pattern, found_pattern, pattern_shown}
 
 -- ---- the skip
 
@@ -162,24 +162,27 @@ module _ (n : ℕ) where
   unfolding grammar.file
   file_shown f form h =
       let goal = unplaced_file f in
+      let bounds = both_limits n f.within f.within_gap in
       let ts = types_shown f.types form.types in
-      let ps = pattern_shown n f.openers f.within form.begins form.openers form.limit (first_below (stages_height f.openers) (select_height f.select) n h) in
+      let ps = pattern_shown n f.openers f.within f.within_gap form.begins form.openers form.limit form.gap
+      (first_below (stages_height f.openers) (select_height f.select) n h) in
       let ks = maybe_skip_shown f.skip form.skips in
       let ss = maybe_select_shown f.select form.shows (later_below (stages_height f.openers) (select_height f.select) n h) in
       let w = skip_text f.skip ++ select_text f.select in (
         _,
         Prints-then (rule.many grammar.declaration) _ (map unplaced_type) unplaced_file f.types (map unplaced_type f.types) goal soft soft
-            (types_text f.types) (pattern_text f.openers f.within ++ w) ts.0 _ refl ts.1
-            (λ types a. Prints-then (grammar.pattern e) _ (see_pattern n) unplaced_file (found_pattern n f.openers f.within)
-            (see_pattern n (found_pattern n f.openers f.within)) goal soft soft (pattern_text f.openers f.within) w ps.0 _ refl ps.1
+            (types_text f.types) (pattern_text f.openers f.within f.within_gap ++ w) ts.0 _ refl ts.1
+            (λ types a. Prints-then (grammar.pattern e) _ (see_pattern n) unplaced_file (found_pattern n f.openers bounds)
+            (see_pattern n (found_pattern n f.openers bounds)) goal soft soft (pattern_text f.openers f.within f.within_gap) w ps.0 _ refl ps.1
             (λ found b. Prints-then (rule.maybe grammar.skip) _ (option_map unplaced_skip) unplaced_file f.skip (option_map unplaced_skip f.skip)
             goal soft soft (skip_text f.skip) (select_text f.select) ks.0 ss.0 refl ks.1
             (λ after c. Prints-made (rule.maybe (grammar.select e)) _ (option_map (map unplaced)) unplaced_file (option_map (map unplaced) f.select)
             goal soft (select_text f.select) ss.0 ss.1
-            (λ shown d i. record { types = a i; openers = (b i).0; within = (b i).1; skip = c i; select = d i }))
+            (λ shown d i. record { types = a i; openers = (b i).0; within = (b i).1.within; within_gap = (b i).1.within_gap; skip = c i; select = d i }))
             ss.1.begins)
             (both_soft (skip_text f.skip) (select_text f.select) ks.1.begins ss.1.begins))
-            (both_soft (pattern_text f.openers f.within) w ps.1.begins (both_soft (skip_text f.skip) (select_text f.select) ks.1.begins ss.1.begins)),
+            (both_soft (pattern_text f.openers f.within f.within_gap) w ps.1.begins
+            (both_soft (skip_text f.skip) (select_text f.select) ks.1.begins ss.1.begins)),
       )
 
 -- ---- the tokens of the whole text

@@ -20,12 +20,13 @@ use Rattle.cep_syntax.specs.declared.file.ModKind.TheVariants.{Filter, Until, Ti
 use Rattle.cep_syntax.specs.declared.file.Modifier.{Modifier}
 use Rattle.cep_syntax.specs.declared.file.Opener.{Opener}
 use Rattle.cep_syntax.specs.declared.file.PlacedNumber.{PlacedNumber}
+use Rattle.cep_syntax.specs.declared.limit.Limits.{Limits}
 use Rattle.cep_syntax.specs.Terminal.{opener}
 use Rattle.cep_syntax.specs.Grammar as grammar
 use Rattle.cep_syntax.specs.WellFormed.{is_number, is_formed, of_some, is_formed_modifier, is_formed_opener, is_begin, begins_once}
 use Rattle.cep_print.specs.Literal.{Text, literal}
-use Rattle.cep_print.specs.Expression.{expression_text}
-use Rattle.cep_print.specs.File.{opened_text, of_text, second_text, modifier_text, modifiers_text, stage_text, stage_part, limit_text, pattern_text}
+use Rattle.cep_print.specs.Expression.{chained, expression_text}
+use Rattle.cep_print.specs.File.{opened_text, of_text, second_text, modifier_text, modifiers_text, stage_text, stage_part, limit_text, limits_text, pattern_text}
 use Rattle.cep_print.specs.Same.{unplaced_name, unplaced}
 use Rattle.cep_print.specs.SameFile.{unplaced_kind, unplaced_modifier, unplaced_stage, unplaced_limit}
 use Rattle.cep_print.proofs.Scanned.{front, soft, hard, hard_is_soft, and_parts, Mark}
@@ -302,23 +303,54 @@ module _ (n : ℕ) where
 
   -- ---- the pattern
 
-  limit_shown : (limit : Option PlacedNumber) → of_some (λ x. is_number x.value) limit ≡ true → Printed (rule.maybe (rule.◌>>◌ (rule.sign (codes ".")) grammar.time_limit)) (option_map unplaced_limit) (option_map unplaced_limit limit) soft (limit_text limit)
-  unfolding grammar.time_limit
-  limit_shown None f =
+  abbrev limit_rule : Text → Rule (Option PlacedNumber)
+  limit_rule word = rule.maybe (rule.◌>>◌ (rule.sign (codes ".")) (grammar.limited word))
+
+  abbrev opening_of : Text → Text
+  opening_of word = 46 ∷ (word ++ 40 ∷ [])
+
+  limit_shown : (word : Text) → is_word word ≡ true → (limit : Option PlacedNumber) → of_some (λ x. is_number x.value) limit ≡ true
+      → Printed (limit_rule word) (option_map unplaced_limit) (option_map unplaced_limit limit) soft (limit_text (opening_of word) limit)
+  unfolding grammar.limited
+  limit_shown word w None f =
       (_, Prints-right _ (rule.pure None) (option_map unplaced_limit) None soft [] _ (Prints-pure None (option_map unplaced_limit) soft soft_stays))
-  limit_shown (Some x) f =
-      let goal = unplaced_limit x in (
+  limit_shown word w (Some x) f =
+      let goal = unplaced_limit x in
+      let behind = 40 ∷ (decimal x.value ++ codes ")") in
+      let text : 46 ∷ (word ++ behind) ≡ limit_text (opening_of word) (Some x)
+      = ap (λ l. 46 ∷ l) (sym (append_assoc word (40 ∷ []) (decimal x.value ++ codes ")"))) in
+      subst (λ l. Printed (limit_rule word) (option_map unplaced_limit) (Some goal) soft l) text (
         _,
-        Prints-left _ (rule.pure None) (option_map unplaced_limit) (Some goal) soft (limit_text (Some x)) _
-            (Prints-made _ Some unplaced_limit (option_map unplaced_limit) goal (Some goal) soft (limit_text (Some x)) _
-            (sign_then 46 _ unplaced_limit goal soft (codes "within(" ++ (decimal x.value ++ codes ")")) _ refl refl
-            (word_then (codes "within") _ unplaced_limit goal soft (40 ∷ (decimal x.value ++ codes ")")) _ refl (λ rest may. refl)
+        Prints-left _ (rule.pure None) (option_map unplaced_limit) (Some goal) soft (46 ∷ (word ++ behind)) _
+            (Prints-made _ Some unplaced_limit (option_map unplaced_limit) goal (Some goal) soft (46 ∷ (word ++ behind)) _
+            (sign_then 46 _ unplaced_limit goal soft (word ++ behind) _ refl refl
+            (word_then word _ unplaced_limit goal soft behind _ w (λ rest may. refl)
             (sign_then 40 _ unplaced_limit goal soft (decimal x.value ++ codes ")") _ refl refl
             (Prints-then (rule.placed (rule.one number)) _ (λ found. found.1) unplaced_limit (0, x.value) x.value goal hard soft (decimal x.value) (codes ")") _ _ refl
             (Prints-placed (rule.one number) (λ v. v) x.value hard (decimal x.value) _ (Prints-number x.value (at_most x.value f)))
             (λ found same. sign_last 41 (grammar.placed_number found) unplaced_limit goal refl refl (λ i. record { value = same i; place = 0 }))
             (λ rest may. refl)))))
             (λ y is. ap Some is)),
+      )
+
+  abbrev pub see_limits : Limits → Limits
+  see_limits bounds = record { within = option_map unplaced_limit bounds.within; within_gap = option_map unplaced_limit bounds.within_gap }
+
+  abbrev pub both_limits : Option PlacedNumber → Option PlacedNumber → Limits
+  both_limits within gap = record { within = within; within_gap = gap }
+
+  limits_shown : (within gap : Option PlacedNumber) → of_some (λ x. is_number x.value) within ≡ true → of_some (λ x. is_number x.value) gap ≡ true
+      → Printed grammar.limits see_limits (see_limits (both_limits within gap)) soft (limits_text within gap)
+  limits_shown within gap f g =
+      let one = limit_shown (codes "within") refl within f in
+      let other = limit_shown (codes "withinGap") refl gap g in
+      let goal = see_limits (both_limits within gap) in (
+        _,
+        Prints-then (limit_rule (codes "within")) _ (option_map unplaced_limit) see_limits within (option_map unplaced_limit within) goal soft soft
+            (limit_text (codes ".within(") within) (limit_text (codes ".withinGap(") gap) one.0 other.0 refl one.1
+            (λ x a. Prints-made (limit_rule (codes "withinGap")) (λ y. both_limits x y) (option_map unplaced_limit) see_limits (option_map unplaced_limit gap)
+            goal soft (limit_text (codes ".withinGap(") gap) other.0 other.1 (λ y b i. record { within = a i; within_gap = b i }))
+            other.1.begins,
       )
 
   begin_is : (how : OpenKind) → is_begin how ≡ true → how ≡ Begin
@@ -329,11 +361,11 @@ module _ (n : ℕ) where
   begin_is NotNext f = cc
   begin_is NotFollowedBy f = cc
 
-  abbrev pub see_pattern : List Opener × Option PlacedNumber → List Opener × Option PlacedNumber
-  see_pattern found = (map unplaced_stage found.0, option_map unplaced_limit found.1)
+  abbrev pub see_pattern : List Opener × Limits → List Opener × Limits
+  see_pattern found = (map unplaced_stage found.0, see_limits found.1)
 
-  abbrev pub found_pattern : List Opener → Option PlacedNumber → List Opener × Option PlacedNumber
-  found_pattern openers limit = (openers, limit)
+  abbrev pub found_pattern : List Opener → Limits → List Opener × Limits
+  found_pattern openers bounds = (openers, bounds)
 
   regroup : (a s m t : Text) → (((a ++ 41 ∷ []) ++ s) ++ m) ++ t ≡ a ++ (41 ∷ ((s ++ m) ++ t))
   regroup a s m t =
@@ -341,26 +373,46 @@ module _ (n : ℕ) where
       ∙ ap (λ l. l ++ t) (append_assoc a (41 ∷ s) m)
       ∙ append_assoc a (41 ∷ (s ++ m)) t
 
-  pub pattern_shown : (openers : List Opener) (limit : Option PlacedNumber) → begins_once openers ≡ true → list_all is_formed_opener openers ≡ true
-      → of_some (λ x. is_number x.value) limit ≡ true → stages_height openers ≤ n
-      → Printed (grammar.pattern e) see_pattern (see_pattern (found_pattern openers limit)) soft (pattern_text openers limit)
+  -- the limits and the sign behind them
+  abbrev end_rule : List Opener → Rule (List Opener × Limits)
+  end_rule ys = rule.◌>>=◌ grammar.limits (λ bounds. rule.◌>>◌ (rule.sign (codes ";")) (rule.pure (found_pattern ys bounds)))
+
+  record EndShown (openers : List Opener) (bounds : Limits) (z : Text) : Type 0 where
+    marks : List Mark
+    shown : (ys : List Opener) → map unplaced_stage ys ≡ map unplaced_stage openers
+        → Prints (end_rule ys) see_pattern (see_pattern (found_pattern openers bounds)) soft (z ++ codes ";\n") marks
+    begins : (rest : Text) → soft (front rest) ≡ true → soft (front ((z ++ codes ";\n") ++ rest)) ≡ true
+
+  end_shown : (openers : List Opener) (bounds : Limits) (z : Text) → Printed grammar.limits see_limits (see_limits bounds) soft z → EndShown openers bounds z
+  end_shown openers bounds z lim = record {
+    marks = _;
+    shown = λ ys same. Prints-then grammar.limits _ see_limits see_pattern bounds (see_limits bounds) (see_pattern (found_pattern openers bounds)) soft soft z
+        (codes ";\n") lim.0 _ refl lim.1
+        (λ l so. line_end (found_pattern ys l) see_pattern (see_pattern (found_pattern openers bounds)) (λ i. found_pattern (same i) (so i)))
+        (λ rest may. refl);
+    begins = λ rest may. subst (λ l. soft (front l) ≡ true) (sym (append_assoc z (codes ";\n") rest)) (lim.1.begins (codes ";\n" ++ rest) refl);
+  }
+
+  -- the pattern with the text of its limits
+  pattern_with : (first : Opener) (more : List Opener) (bounds : Limits) (z : Text) → begins_once (first ∷ more) ≡ true
+      → list_all is_formed_opener (first ∷ more) ≡ true → EndShown (first ∷ more) bounds z → stages_height (first ∷ more) ≤ n
+      → Printed (grammar.pattern e) see_pattern (see_pattern (found_pattern (first ∷ more) bounds)) soft
+      (codes "pattern " ++ (chained (map stage_part (first ∷ more)) ++ (z ++ codes ";\n")))
   unfolding grammar.pattern
-  pattern_shown [] limit f g k h = cc
-  pattern_shown (first ∷ more) limit f g k h =
+  pattern_with first more bounds z f g end h =
       let b = and_parts (is_begin first.how) (list_all (λ o. not (is_begin o.how)) more) f in
       let a = and_parts (is_formed_opener first) (list_all is_formed_opener more) g in
       let begin = begin_is first.how b.0 in
       let form = formed_stage first a.0 in
       let st = stage_shown first form.1 form.2 (first_below (mods_height first.mods) (stages_height more) n h) in
       let ms = more_stages more a.1 b.1 (later_below (mods_height first.mods) (stages_height more) n h) in
-      let lim = limit_shown limit k in
       let s = of_text first.of ++ modifiers_text first.mods in
       let m = flat_map with_sign (map stage_part more) in
-      let t = limit_text limit ++ codes ";\n" in
+      let t = z ++ codes ";\n" in
       let lit = literal first.name.text in
       let openers = first ∷ more in
-      let goal = see_pattern (found_pattern openers limit) in
-      let text : codes "pattern " ++ (codes "begin(" ++ (lit ++ (41 ∷ ((s ++ m) ++ t)))) ≡ pattern_text openers limit =
+      let goal = see_pattern (found_pattern openers bounds) in
+      let text : codes "pattern " ++ (codes "begin(" ++ (lit ++ (41 ∷ ((s ++ m) ++ t)))) ≡ codes "pattern " ++ (chained (map stage_part openers) ++ t) =
       ap (λ l. codes "pattern " ++ (codes "begin(" ++ l)) (sym (regroup lit s m t))
       ∙ ap (λ how. codes "pattern " ++ (((opened_text how first.name.text ++ s) ++ m) ++ t)) (sym begin) in
       subst (λ l. Printed (grammar.pattern e) see_pattern goal soft l) text (
@@ -379,8 +431,16 @@ module _ (n : ℕ) where
             (λ y same. Prints-made (rule.many (grammar.next_stage e)) (λ ys. y ∷ ys) (map unplaced_stage) (map unplaced_stage)
             (map unplaced_stage more) (map unplaced_stage openers) soft m ms.0 ms.1 (λ ys so i. same i ∷ so i))
             ms.1.begins)
-            (λ ys same. Prints-then (rule.maybe (rule.◌>>◌ (rule.sign (codes ".")) grammar.time_limit)) _ (option_map unplaced_limit) see_pattern limit (option_map unplaced_limit limit) goal soft soft (limit_text limit) (codes ";\n") lim.0 _ refl lim.1
-            (λ l so. line_end (found_pattern ys l) see_pattern goal (λ i. found_pattern (same i) (so i))) (λ rest may. refl))
-            (λ rest may. subst (λ l. soft (front l) ≡ true) (sym (append_assoc (limit_text limit) (codes ";\n") rest)) (lim.1.begins (codes ";\n" ++ rest) refl))))
+            (λ ys same. end.shown ys same)
+            end.begins))
             (λ rest may. refl))))),
       )
+
+  pub pattern_shown : (openers : List Opener) (within gap : Option PlacedNumber) → begins_once openers ≡ true
+      → list_all is_formed_opener openers ≡ true
+      → of_some (λ x. is_number x.value) within ≡ true → of_some (λ x. is_number x.value) gap ≡ true → stages_height openers ≤ n
+      → Printed (grammar.pattern e) see_pattern (see_pattern (found_pattern openers (both_limits within gap))) soft (pattern_text openers within gap)
+  pattern_shown [] within gap f g k j h = cc
+  pattern_shown (first ∷ more) within gap f g k j h =
+      pattern_with first more (both_limits within gap) (limits_text within gap) f g
+      (end_shown (first ∷ more) (both_limits within gap) (limits_text within gap) (limits_shown within gap k j)) h

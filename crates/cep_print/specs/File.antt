@@ -92,12 +92,15 @@ stage_text o = opened_text o.how o.name.text ++ (of_text o.of ++ modifiers_text 
 abbrev pub stage_part : Opener → Text × Text
 stage_part o = (codes ".", stage_text o)
 
-abbrev pub limit_text : Option PlacedNumber → Text
-limit_text None = []
-limit_text (Some n) = codes ".within(" ++ (decimal n.value ++ codes ")")
+abbrev pub limit_text : Text → Option PlacedNumber → Text
+limit_text opening None = []
+limit_text opening (Some n) = opening ++ (decimal n.value ++ codes ")")
 
-abbrev pub pattern_text : List Opener → Option PlacedNumber → Text
-pattern_text openers limit = codes "pattern " ++ (chained (map stage_part openers) ++ (limit_text limit ++ codes ";\n"))
+abbrev pub limits_text : Option PlacedNumber → Option PlacedNumber → Text
+limits_text within gap = limit_text (codes ".within(") within ++ limit_text (codes ".withinGap(") gap
+
+abbrev pub pattern_text : List Opener → Option PlacedNumber → Option PlacedNumber → Text
+pattern_text openers within gap = codes "pattern " ++ (chained (map stage_part openers) ++ (limits_text within gap ++ codes ";\n"))
 
 -- ---- the skip and the select
 
@@ -129,4 +132,4 @@ abbrev pub types_text : List TypeDecl → Text
 types_text types = flat_map type_text types
 
 abbrev pub printed : File → Text
-printed f = types_text f.types ++ (pattern_text f.openers f.within ++ (skip_text f.skip ++ select_text f.select))
+printed f = types_text f.types ++ (pattern_text f.openers f.within f.within_gap ++ (skip_text f.skip ++ select_text f.select))

@@ -50,6 +50,7 @@ unplaced_file f = record {
   types = map unplaced_type f.types;
   openers = map unplaced_stage f.openers;
   within = option_map unplaced_limit f.within;
+  within_gap = option_map unplaced_limit f.within_gap;
   skip = option_map unplaced_skip f.skip;
   select = option_map (map unplaced) f.select;
 }

@@ -201,7 +201,8 @@ pub fn same_file(one: &File, other: &File) -> bool
     ensures { IsTrue result ↔ spec.IsSameFile one.now other.now }
 {
     let is_same_pattern = same_stages(one.openers.as_slice(), other.openers.as_slice())
-        && same_limit(&one.within, &other.within);
+        && same_limit(&one.within, &other.within)
+        && same_limit(&one.within_gap, &other.within_gap);
     all_four(
         same_types(one.types.as_slice(), other.types.as_slice()),
         is_same_pattern,

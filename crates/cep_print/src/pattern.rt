@@ -144,18 +144,29 @@ fn put_stages(alloc: Global, out: &mut String, stages: &[Opener]) -> Result<(), 
     Ok(())
 }
 
-fn put_limit(out: &mut String, within: &Option<PlacedNumber>) -> Result<(), NoMemory>
-    ensures { OnOk result (string_bytes out.new ≡ string_bytes out.old ++ spec.limit_text within.now) }
+fn put_limit(out: &mut String, opening: &str, limit: &Option<PlacedNumber>) -> Result<(), NoMemory>
+    ensures { OnOk result (string_bytes out.new ≡ string_bytes out.old ++ spec.limit_text opening.now limit.now) }
 {
-    match within {
+    match limit {
         None => Ok(()),
         Some(limit) => {
-            out.push_str(".within(")?;
+            out.push_str(opening)?;
             put_number(out, limit.value)?;
             out.push_str(")")?;
             Ok(())
         }
     }
+}
+
+fn put_limits(
+    out: &mut String,
+    within: &Option<PlacedNumber>,
+    gap: &Option<PlacedNumber>,
+) -> Result<(), NoMemory>
+    ensures { OnOk result (string_bytes out.new ≡ string_bytes out.old ++ spec.limits_text within.now gap.now) }
+{
+    put_limit(out, ".within(", within)?;
+    put_limit(out, ".withinGap(", gap)
 }
 
 /// Adds the pattern and its line end.
@@ -164,12 +175,13 @@ pub fn put_pattern(
     out: &mut String,
     stages: &[Opener],
     within: &Option<PlacedNumber>,
+    gap: &Option<PlacedNumber>,
 ) -> Result<(), NoMemory>
-    ensures { OnOk result (string_bytes out.new ≡ string_bytes out.old ++ spec.pattern_text stages.now within.now) }
+    ensures { OnOk result (string_bytes out.new ≡ string_bytes out.old ++ spec.pattern_text stages.now within.now gap.now) }
 {
     out.push_str("pattern ")?;
     put_stages(alloc, out, stages)?;
-    put_limit(out, within)?;
+    put_limits(out, within, gap)?;
     out.push_str(";\n")?;
     Ok(())
 }

@@ -18,7 +18,13 @@ pub fn print(alloc: Global, file: &File) -> Result<Text, NoMemory>
 {
     let mut out = String::new(alloc);
     put_types(&mut out, file.types.as_slice())?;
-    put_pattern(alloc, &mut out, file.openers.as_slice(), &file.within)?;
+    put_pattern(
+        alloc,
+        &mut out,
+        file.openers.as_slice(),
+        &file.within,
+        &file.within_gap,
+    )?;
     put_skip(alloc, &mut out, &file.skip)?;
     put_select(alloc, &mut out, &file.select)?;
     Text::from_str(alloc, out.as_str())

@@ -148,6 +148,14 @@ fn files_have_one_form(rt: HostRuntime) -> Result<(), Fail> {
             "pattern begin(\"a\").where(a == 1).or(b).times(2).times(1, 3).timesOrMore(4).oneOrMore().optional().consecutive().allowCombinations().until(c < 3);\n",
         ),
         (
+            "pattern begin(\"a\") . withinGap( 05 );",
+            "pattern begin(\"a\").withinGap(5);\n",
+        ),
+        (
+            "pattern begin(\"a\").notFollowedBy(\"b\").within(8)\n.withinGap(5);",
+            "pattern begin(\"a\").notFollowedBy(\"b\").within(8).withinGap(5);\n",
+        ),
+        (
             "pattern begin(\"a\");skip none;",
             "pattern begin(\"a\");\nskip none;\n",
         ),
@@ -192,6 +200,8 @@ fn is_read_back(alloc: Global, text: &str) -> Result<bool, Fail> {
 fn printed_files_are_read_back(rt: HostRuntime) -> Result<(), Fail> {
     let table = [
         "pattern begin(\"a\");",
+        "pattern begin(\"a\").withinGap(5);",
+        "pattern begin(\"a\").within(8).withinGap(5);",
         "event A(v int); pattern begin(\"a\").of(A).where(!(v*(2+v)<3)).next(\"b\").within(9); skip none; select -v, \"\\\"\";",
     ];
     for text in table {
@@ -248,6 +258,16 @@ fn files_that_differ_are_told_apart(rt: HostRuntime) -> Result<(), Fail> {
         (
             "pattern begin(\"a\").within(1);",
             "pattern begin(\"a\").within(2);",
+            false,
+        ),
+        (
+            "pattern begin(\"a\").within(1);",
+            "pattern begin(\"a\").withinGap(1);",
+            false,
+        ),
+        (
+            "pattern begin(\"a\").within(1).withinGap(1);",
+            "pattern begin(\"a\").within(1).withinGap(2);",
             false,
         ),
         (

@@ -1,8 +1,8 @@
--- A chain of links behind one sign, of which a last one may end it: the reader against the rule.
+-- A chain of links behind one sign, which something else may end: the reader against the rule.
 use Rattle.std.proofs.Common.{◌≡◌, ℕ, zero, suc, Bool, inl, inr, List, [], ◌∷◌, ◌++◌, length, refl, sym, ◌∙◌, ap, subst, arith, append_assoc, append-nil}
 use Rattle.std.specs.Prelude.{Option, Some, None, fold}
 use Rattle.cep_reading.specs.Lexeme.{Lexeme}
-use Rattle.cep_reading.specs.Terminal.{only, symbol, word}
+use Rattle.cep_reading.specs.Terminal.{only, symbol}
 use Rattle.cep_reading.specs.Reading.{Left, Reader, next_is}
 use Rattle.cep_reading.specs.Reading as read
 use Rattle.cep_reading.specs.Rule.{Rule, InTurn, Builds, many_by}
@@ -10,7 +10,7 @@ use Rattle.cep_reading.specs.Rule as rule
 use Rattle.cep_reading.proofs.Laws.{Sound, Sound-pure, Sound-one, Sound-then, Sound-choose, Sound-wider, Word, Stops, StartsWith, Complete, Complete-pure, Complete-one, Complete-then, Complete-choose, Complete-narrower, Agrees, Agrees-pure, Agrees-one, Agrees-then, Agrees-choose, Agrees-spent, Agrees-with_spent, Lasts, Lasts-pure, Lasts-one, Lasts-then, Lasts-after, Lasts-choose, Lasts-fewer, err_value}
 use Rattle.cep_reading.proofs.Starts.{Avoids, starts-then, starts-symbol, takes-one}
 
-module _ {S A E : Type 0} (lead ends : List ℕ) (next : S → A → S) (re : Rule E) where
+module _ {S A E : Type 0} (lead : List ℕ) (ends : Lexeme → Bool) (next : S → A → S) (re : Rule E) where
   -- the links, and one that ends them
   abbrev pub Linked : (S → Rule A) → S → Rule (S × Option E)
   Linked r s =
@@ -165,16 +165,16 @@ module _ {S A E : Type 0} (lead ends : List ℕ) (next : S → A → S) (re : Ru
         Sound-wider (read.links (suc n) lead ends next p e s) (turn r s) (Linked r s) (turn_linked r s)
         (Sound-choose (symbol lead) _ _ _ _
         (Sound-then _ _ _ _ sound-lead (λ _.
-        Sound-choose (word ends) _ _ _ _
+        Sound-choose ends _ _ _ _
         (Sound-then _ _ _ _ exit (λ x. Sound-pure (s, Some x)))
         (Sound-then _ _ _ _ (item s) (λ a. Sound-links n (next s a)))))
         (Sound-pure (s, None)))
 
     sound-behind : (n : ℕ) (s : S)
-        → Sound (read.choose (word ends) (read.◌>>=◌ e (λ x. read.pure (s, Some x)))
+        → Sound (read.choose ends (read.◌>>=◌ e (λ x. read.pure (s, Some x)))
         (read.◌>>=◌ (p s) (λ a. read.links n lead ends next p e (next s a)))) (behind r s)
     sound-behind n s =
-        Sound-choose (word ends) _ _ _ _
+        Sound-choose ends _ _ _ _
         (Sound-then _ _ _ _ exit (λ x. Sound-pure (s, Some x)))
         (Sound-then _ _ _ _ (item s) (λ a. Sound-links n (next s a)))
 
@@ -187,7 +187,7 @@ module _ {S A E : Type 0} (lead ends : List ℕ) (next : S → A → S) (re : Ru
         Agrees-choose (symbol lead) _ _ _ _
         (Agrees-then _ _ _ _ _ _ sound-lead (λ _. sound-behind n s) (Agrees-one (only (symbol lead)))
         (λ _.
-        Agrees-choose (word ends) _ _ _ _
+        Agrees-choose ends _ _ _ _
         (Agrees-then e f _ _ re _ exit (λ x. Sound-pure (s, Some x)) same_exit (λ x. Agrees-pure (s, Some x)))
         (Agrees-then (p s) (q s) _ _ (r s) _ (item s) (λ a. Sound-links n (next s a)) (same s) (λ a. Agrees-links q f same same_exit n m (next s a)))))
         (Agrees-pure (s, None))
@@ -199,15 +199,15 @@ module _ {S A E : Type 0} (lead ends : List ℕ) (next : S → A → S) (re : Ru
         Lasts-choose (suc n) (symbol lead) _ _
         (Lasts-after n _ _ _ (takes-one (only (symbol lead))) sound-lead (Lasts-one (suc n) (only (symbol lead)))
         (λ _.
-        Lasts-choose n (word ends) _ _
+        Lasts-choose n ends _ _
         (Lasts-then n e _ re exit (Lasts-fewer (suc n) n e (omega arith) ending) (λ x. Lasts-pure n (s, Some x)))
         (Lasts-then n (p s) _ (r s) (item s) (Lasts-fewer (suc n) n (p s) (omega arith) (lasts s))
         (λ a. Lasts-links n (λ t. Lasts-fewer (suc n) n (p t) (omega arith) (lasts t)) (Lasts-fewer (suc n) n e (omega arith) ending) (next s a)))))
         (Lasts-pure (suc n) (s, None))
 
   module _ (r : S → Rule A) (p : S → Reader A) (e : Reader E) (nothing : Lexeme → Bool) (none : (l : Left) → Stops nothing l)
-      (item : (s : S) → Complete (r s) (p s) nothing) (exit : Complete re e nothing) (starts : StartsWith re (word ends))
-      (avoids : (s : S) → Avoids (r s) (word ends)) where
+      (item : (s : S) → Complete (r s) (p s) nothing) (exit : Complete re e (symbol lead)) (starts : StartsWith re ends)
+      (avoids : (s : S) → Avoids (r s) ends) where
     pub Complete-links : (n : ℕ) (s : S) → Complete (Linked r s) (read.links n lead ends next p e s) (symbol lead)
     unfolding read.links
     Complete-links zero s = record { reads = λ used rest a h stops. inr (record { rest = used ++ rest; is = refl }) }
@@ -216,18 +216,19 @@ module _ {S A E : Type 0} (lead ends : List ℕ) (next : S → A → S) (re : Ru
         (Complete-choose (symbol lead) _ _ _ _ (symbol lead)
         (Complete-then _ _ _ _ nothing (symbol lead) (Complete-one (only (symbol lead)) nothing)
         (λ _.
-        Complete-choose (word ends) _ _ _ _ (symbol lead)
-        (Complete-then e _ re _ nothing (symbol lead) exit (λ x. Complete-pure (s, Some x) (symbol lead)) (λ a b back rest h stops. none (back ++ rest)))
+        Complete-choose ends _ _ _ _ (symbol lead)
+        (Complete-then e _ re _ (symbol lead) (symbol lead) exit (λ x. Complete-pure (s, Some x) (symbol lead))
+        (λ a b back rest h stops. subst (λ l. Stops (symbol lead) (l ++ rest)) (sym h.0) stops))
         (Complete-then (p s) _ (r s) _ nothing (symbol lead) (item s) (λ a. Complete-links n (next s a)) (λ a b back rest h stops. none (back ++ rest)))
-        (starts-then re _ (word ends) starts)
+        (starts-then re _ ends starts)
         (λ used rest a h stops. (avoids-later s).stops used rest a h))
         (λ a b back rest h stops. none (back ++ rest)))
         (Complete-pure (s, None) (symbol lead))
         (starts-then _ _ (symbol lead) (starts-symbol lead))
         (λ used rest a h stops. subst (λ l. Stops (symbol lead) (l ++ rest)) (sym h.0) stops)) where
-          avoids-later : (x : S) → Avoids (rule.◌>>=◌ (r x) (λ a. Linked r (next x a))) (word ends)
+          avoids-later : (x : S) → Avoids (rule.◌>>=◌ (r x) (λ a. Linked r (next x a))) ends
           avoids-later x = record {
             stops = λ used rest b h.
                 let is : used ++ rest ≡ h.front ++ (h.back ++ rest) = ap (λ l. l ++ rest) h.is ∙ append_assoc h.front h.back rest in
-                ap (next_is (word ends)) is ∙ (avoids x).stops h.front (h.back ++ rest) h.value h.first;
+                ap (next_is ends) is ∙ (avoids x).stops h.front (h.back ++ rest) h.value h.first;
           }

@@ -161,13 +161,13 @@ WarnsFirst-choose {A} first p q quiet warns apart = record {
 abbrev pub up_to_link : {S A : Type 0} → List ℕ → (S → A → S) → (S → Rule A) → S → Rule (Unit {0})
 up_to_link lead next r s = rule.◌>>=◌ (Builds next (λ x. rule.◌>>◌ (rule.sign lead) (r x)) s) (λ _. rule.sign lead)
 
-module _ {S A E : Type 0} (lead ends : List ℕ) (next : S → A → S) where
+module _ {S A E : Type 0} (lead : List ℕ) (ends : Lexeme → Bool) (next : S → A → S) where
   module _ (n : ℕ) (r : ℕ → S → Rule A) (p : S → Reader A) (e : Reader E) (sound-lead : Sound (read.sign lead) (rule.sign lead))
       (item : (s : S) → Sound (p s) (r (suc n) s)) (reads : (k : ℕ) (s : S) → Complete (r k s) (p s) nothing)
-      (avoids : (k : ℕ) (s : S) → Avoids (r k s) (word ends)) (warns : (s : S) → WarnsFirst (p s)) (exit : Quiet e)
-      (apart : (t : Lexeme) → greedy t ≡ true → word ends t ≡ false) where
+      (avoids : (k : ℕ) (s : S) → Avoids (r k s) ends) (warns : (s : S) → WarnsFirst (p s)) (exit : Quiet e)
+      (apart : (t : Lexeme) → greedy t ≡ true → ends t ≡ false) where
     abbrev behind : ℕ → S → Reader (S × Option E)
-    behind m s = read.choose (word ends) (read.◌>>=◌ e (λ x. read.pure (s, Some x))) (read.◌>>=◌ (p s) (λ a. read.links m lead ends next p e (next s a)))
+    behind m s = read.choose ends (read.◌>>=◌ e (λ x. read.pure (s, Some x))) (read.◌>>=◌ (p s) (λ a. read.links m lead ends next p e (next s a)))
 
     abbrev Found : ℕ → Type 0
     Found m = (s : S) (ts rest : Left) → read.links m lead ends next p e s ts ≡ Err (Greedy, rest)
@@ -225,8 +225,8 @@ module _ {S A E : Type 0} (lead ends : List ℕ) (next : S → A → S) where
             y.1,
           )
 
-      behind_found : ((next_is (word ends) mid ≡ true) × (and_then {B = S × Option E} (e mid) (λ x. read.pure (s, Some x)) ≡ Err (Greedy, rest)))
-          ⊎ ((next_is (word ends) mid ≡ false)
+      behind_found : ((next_is ends mid ≡ true) × (and_then {B = S × Option E} (e mid) (λ x. read.pure (s, Some x)) ≡ Err (Greedy, rest)))
+          ⊎ ((next_is ends mid ≡ false)
           × (and_then {B = S × Option E} (p s mid) (λ a. read.links m lead ends next p e (next s a)) ≡ Err (Greedy, rest)))
           → Split ts rest (λ used. up_to_link lead next (r (suc n)) s used tt) × (next_is greedy rest ≡ true)
       behind_found (inl h) = absurd ((Quiet-then e _ exit (λ x. Quiet-pure (s, Some x))).never mid rest h.1)
@@ -236,7 +236,7 @@ module _ {S A E : Type 0} (lead ends : List ℕ) (next : S → A → S) where
       sign_found : (read.sign lead ts ≡ Err (Greedy, rest)) ⊎ IsThen (read.sign lead ts) (λ _. behind m s) (Err (Greedy, rest))
           → Split ts rest (λ used. up_to_link lead next (r (suc n)) s used tt) × (next_is greedy rest ≡ true)
       sign_found (inl h) = absurd ((Quiet-one (only (symbol lead))).never ts rest h)
-      sign_found (inr k) = behind_found m later s ts k.mid rest (sound-lead.ok ts k.mid k.value k.was) (chosen (next_is (word ends) k.mid) _ _ _ k.gives)
+      sign_found (inr k) = behind_found m later s ts k.mid rest (sound-lead.ok ts k.mid k.value k.was) (chosen (next_is ends k.mid) _ _ _ k.gives)
 
       turn_found : ((next_is (symbol lead) ts ≡ true) × (and_then (read.sign lead ts) (λ _. behind m s) ≡ Err (Greedy, rest)))
           ⊎ ((next_is (symbol lead) ts ≡ false) × (read.pure {A = S × Option E} (s, None) ts ≡ Err (Greedy, rest)))
@@ -254,7 +254,7 @@ module _ {S A E : Type 0} (lead ends : List ℕ) (next : S → A → S) where
     Given m s used rest t = Unless (read.links m lead ends next p e s (used ++ t ∷ rest)) (Err (Greedy, t ∷ rest))
 
     -- behind a sign, where no link ends the chain
-    behind_given : (m : ℕ) (s : S) (ts : Left) (t : Lexeme) (rest : Left) → next_is (word ends) ts ≡ false
+    behind_given : (m : ℕ) (s : S) (ts : Left) (t : Lexeme) (rest : Left) → next_is ends ts ≡ false
         → Unless (and_then (p s ts) (λ a. read.links m lead ends next p e (next s a))) (Err (Greedy, t ∷ rest))
         → Unless (behind m s ts) (Err (Greedy, t ∷ rest))
     behind_given m s ts t rest goes h =

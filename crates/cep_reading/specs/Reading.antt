@@ -77,13 +77,13 @@ unless first why p = choose first (stop why) p
 abbrev pub branch : {A : Type 0} → List ℕ → Reader A → Reader A → Reader A
 branch text p q = choose (word text) (keyword text >> p) q
 
--- As many links as there are, each behind a token `lead` and added to what was built before, which says what may come next. One that begins with a
--- token `ends` is the last.
-unfoldable pub links : {S A E : Type 0} → ℕ → List ℕ → List ℕ → (S → A → S) → (S → Reader A) → Reader E → S → Reader (S × Option E)
+-- As many links as there are, each behind a token `lead` and added to what was built before, which says what may come next. Where a token that
+-- `ends` them is next, what it begins is the last.
+unfoldable pub links : {S A E : Type 0} → ℕ → List ℕ → (Lexeme → Bool) → (S → A → S) → (S → Reader A) → Reader E → S → Reader (S × Option E)
 links zero lead ends next p e s = stop Spent
 links (suc n) lead ends next p e s =
     choose (symbol lead)
-    (sign lead >> choose (word ends) (e >>= (λ x. pure (s, Some x))) (p s >>= (λ a. links n lead ends next p e (next s a))))
+    (sign lead >> choose ends (e >>= (λ x. pure (s, Some x))) (p s >>= (λ a. links n lead ends next p e (next s a))))
     (pure (s, None))
 
 abbrev pub place_of : Left → ℕ

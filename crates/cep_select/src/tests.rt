@@ -57,6 +57,8 @@ fn plan(alloc: Global, stages: StageList, select: Option<ExprList>) -> Result<Pl
         stages,
         negations: NegationList::new(alloc),
         within: None,
+        within_gap: None,
+        by: None,
         skip: Skip::No,
         select,
     })

@@ -1,6 +1,6 @@
 -- The reader of files against the grammar.
-use Rattle.std.proofs.Common.{◌≡◌, ℕ, Bool, true, false, ◌||◌, cond, List, [], ◌∷◌, ◌++◌, refl, sym, ◌∙◌, ap, subst, append_assoc}
-use Rattle.std.specs.Prelude.{codes, Some, None}
+use Rattle.std.proofs.Common.{◌≡◌, ℕ, Bool, true, false, ◌||◌, cond, inl, inr, List, [], ◌∷◌, ◌++◌, refl, sym, ◌∙◌, ap, subst, append_assoc}
+use Rattle.std.specs.Prelude.{codes, Option, Some, None}
 use Rattle.cep_event.specs.declared.value.Kind.TheVariants as kind
 use Rattle.cep_token.specs.declared.token.TokenKind.TheVariants as token
 use Rattle.cep_reading.specs.Lexeme.{Lexeme}
@@ -10,7 +10,7 @@ use Rattle.cep_reading.specs.Reading as read
 use Rattle.cep_reading.specs.Rule.{Rule}
 use Rattle.cep_reading.specs.Rule as rule
 use Rattle.cep_reading.proofs.Laws.{Stops, StartsWith}
-use Rattle.cep_reading.proofs.Starts.{Avoids, avoids_by, starts-symbol, starts-word, starts-any_word, starts-then, starts-placed, starts-branch, starts-last, takes-one, takes-then, takes-starts, one_of, has_text, same_one_of, same_symbol, neither, or_false, symbol_is_not_any_word}
+use Rattle.cep_reading.proofs.Starts.{Avoids, avoids_by, starts-symbol, starts-word, starts-any_word, starts-then, starts-placed, starts-branch, starts-last, starts-or, starts-wider, either, takes-one, takes-then, takes-starts, one_of, has_text, same_one_of, same_symbol, same_word, neither, or_false, symbol_is_not_any_word}
 use Rattle.cep_reading.proofs.Exact.{Exact, nothing, stops_nothing, Exact-pure, Exact-one, exact-symbol, exact-word, Exact-then, Exact-last, Exact-before, Exact-made, Exact-choose, Exact-branch, Exact-maybe, Exact-placed, Exact-narrower, Exact-many}
 use Rattle.cep_expression.specs.declared.expr.SynExpr.{SynExpr}
 use Rattle.cep_expression.specs.Grammar.{expression_within}
@@ -20,10 +20,12 @@ use Rattle.cep_syntax.specs.declared.file.OpenKind.TheVariants.{Next, FollowedBy
 use Rattle.cep_syntax.specs.declared.file.Join.TheVariants.{Both, Either}
 use Rattle.cep_syntax.specs.declared.file.ModKind.{ModKind}
 use Rattle.cep_syntax.specs.declared.file.ModKind.TheVariants.{Filter, Until, Times, TimesOrMore, OneOrMore, Optional, Consecutive, AllowCombinations}
+use Rattle.cep_syntax.specs.declared.file.PlacedNumber.{PlacedNumber}
+use Rattle.cep_syntax.specs.declared.limit.Limits.{Limits}
 use Rattle.cep_syntax.specs.declared.file.SkipDecl.{SkipDecl}
 use Rattle.cep_syntax.specs.declared.file.SkipDecl.TheVariants.{No, ToNext, PastLast, ToFirst, ToLast}
 use Rattle.cep_syntax.specs.declared.link.Link.TheVariants.{Of, Mod, Open}
-use Rattle.cep_syntax.specs.Terminal.{kind_of, opener, is_opener}
+use Rattle.cep_syntax.specs.Terminal.{kind_of, opener, is_opener, is_limit}
 use Rattle.cep_syntax.specs.Grammar as grammar
 use Rattle.cep_syntax.specs.Reader as reader
 use Rattle.cep_syntax.proofs.Stages.{of_link, open_link, modifier_link}
@@ -87,6 +89,47 @@ last_two = codes "to_first" ∷ codes "to_last" ∷ []
 starts-two : StartsWith to_name (one_of last_two)
 starts-two = starts-branch (codes "to_first") (codes "to_last" ∷ []) (rule.◌>>=◌ grammar.named (λ name. rule.pure (ToFirst name))) to_last (starts-last (codes "to_last") (rule.◌>>=◌ grammar.named (λ name. rule.pure (ToLast name))))
 
+-- ---- the limits
+
+abbrev pub dot : Lexeme → Bool
+dot = symbol (codes ".")
+
+pub starts-limited : (text : List ℕ) → StartsWith (grammar.limited text) (word text)
+unfolding grammar.limited
+starts-limited text = starts-then _ _ (word text) (starts-word text)
+
+abbrev pub both_limits : PlacedNumber → Option PlacedNumber → Limits
+both_limits within gap = record { within = Some within; within_gap = gap }
+
+abbrev pub gap_alone : PlacedNumber → Limits
+gap_alone gap = record { within = None; within_gap = Some gap }
+
+abbrev pub gap_behind : Rule (Option PlacedNumber)
+gap_behind = rule.maybe (rule.◌>>◌ (rule.sign (codes ".")) (grammar.limited (codes "withinGap")))
+
+abbrev within_first : Rule Limits
+within_first = rule.◌>>=◌ (grammar.limited (codes "within")) (λ within. rule.◌>>=◌ gap_behind (λ gap. rule.pure (both_limits within gap)))
+
+abbrev gap_first : Rule Limits
+gap_first = rule.◌>>=◌ (grammar.limited (codes "withinGap")) (λ gap. rule.pure (gap_alone gap))
+
+-- what may stand behind a dot at the end of a pattern
+abbrev pub ending : Rule Limits
+ending = rule.◌or◌ within_first gap_first
+
+pub starts-ending : StartsWith ending is_limit
+starts-ending =
+    starts-or _ _ is_limit
+    (starts-wider _ (word (codes "within")) is_limit (starts-then _ _ _ (starts-limited (codes "within")))
+    (λ t e. either (word (codes "within") t) (word (codes "withinGap") t) (inl e)))
+    (starts-wider _ (word (codes "withinGap")) is_limit (starts-then _ _ _ (starts-limited (codes "withinGap")))
+    (λ t e. either (word (codes "within") t) (word (codes "withinGap") t) (inr e)))
+
+ending_no_within : Avoids gap_first (word (codes "within"))
+ending_no_within =
+    avoids_by _ (word (codes "withinGap")) (word (codes "within")) (starts-then _ _ _ (starts-limited (codes "withinGap")))
+    (λ t e. same_word (codes "withinGap") (codes "within") t e)
+
 module _ {q : Bool} {n l : ℕ} where
   exact-kind_of : Exact q n l (λ _. rule.one kind_of) (λ _. read.one kind_of) nothing
   unfolding kind_of
@@ -125,13 +168,31 @@ module _ {q : Bool} {n l : ℕ} where
       Exact-last _ _ _ _ nothing exact-stage_name (λ name.
       Exact-last _ _ _ _ nothing (exact-symbol (codes ")") nothing refl) (λ _. Exact-pure (how, name) nothing))))
 
-  pub exact-time_limit : Exact q n l (λ _. grammar.time_limit) (λ _. reader.time_limit) nothing
-  unfolding grammar.time_limit reader.time_limit
-  exact-time_limit =
-      Exact-last _ _ _ _ nothing (exact-word (codes "within") nothing refl) (λ _.
+  exact-limited : (text : List ℕ) → only (word text) (record { kind = token.Word; text = text; place = 0 }) ≡ Some tt
+      → Exact q n l (λ _. grammar.limited text) (λ _. reader.limited text) nothing
+  unfolding grammar.limited reader.limited
+  exact-limited text is =
+      Exact-last _ _ _ _ nothing (exact-word text nothing is) (λ _.
       Exact-last _ _ _ _ nothing (exact-symbol (codes "(") nothing refl) (λ _.
       Exact-last _ _ _ _ nothing (Exact-placed _ _ nothing (λ k. takes-one number) exact-number) (λ found.
       Exact-last _ _ _ _ nothing (exact-symbol (codes ")") nothing refl) (λ _. Exact-pure (grammar.placed_number found) nothing))))
+
+  exact-gap_behind : Exact q n l (λ _. gap_behind) (λ _. reader.gap_behind) dot
+  unfolding reader.gap_behind
+  exact-gap_behind =
+      Exact-maybe dot _ _ dot
+      (Exact-narrower _ _ nothing dot (Exact-last _ _ _ _ nothing (exact-symbol (codes ".") nothing refl)
+      (λ _. exact-limited (codes "withinGap") refl)) (λ ts e. stops_nothing ts))
+      (λ k. starts-then _ _ dot (starts-symbol (codes "."))) (λ ts e. e)
+
+  pub exact-ending : Exact q n l (λ _. ending) (λ _. reader.ending) dot
+  unfolding reader.ending
+  exact-ending =
+      Exact-choose (word (codes "within")) _ _ _ _ dot
+      (Exact-last _ _ _ _ dot (exact-limited (codes "within") refl) (λ within. Exact-made (both_limits within) _ _ dot exact-gap_behind))
+      (Exact-made gap_alone _ _ dot (Exact-narrower _ _ nothing dot (exact-limited (codes "withinGap") refl) (λ ts e. stops_nothing ts)))
+      (λ k. starts-then _ _ (word (codes "within")) (starts-limited (codes "within")))
+      (λ k used rest a h stops. ending_no_within.stops used rest a h)
 
   exact-upper : Exact q n l (λ _. rule.maybe (rule.◌>>◌ (rule.sign (codes ",")) (rule.one number))) (λ _. reader.upper) comma
   unfolding reader.upper

@@ -1,6 +1,7 @@
 -- The reader of whole files against the productions, and where it stops at `greedy`.
 use Rattle.std.proofs.Common.{◌≡◌, ℕ, suc, Bool, true, false, ◌||◌, inl, inr, List, [], ◌∷◌, ◌++◌, refl, sym, ◌∙◌, ap, subst, append_assoc, append-nil}
-use Rattle.std.specs.Prelude.{codes, Option}
+use Rattle.std.specs.Prelude.{codes, Option, Some, None}
+use Rattle.std.specs.Str.{bytes_eq}
 use Rattle.cep_token.specs.declared.token.TokenKind.TheVariants as token
 use Rattle.cep_reading.specs.declared.name.Name.{Name}
 use Rattle.cep_reading.specs.declared.stop.Stop.TheVariants.{Greedy}
@@ -11,7 +12,7 @@ use Rattle.cep_reading.specs.Reading as read
 use Rattle.cep_reading.specs.Rule.{Rule, InTurn, Builds}
 use Rattle.cep_reading.specs.Rule as rule
 use Rattle.cep_reading.proofs.Laws.{Sound, Sound-one, Stops, StartsWith}
-use Rattle.cep_reading.proofs.Starts.{Avoids, avoids_by, avoids-or, starts-one, starts-word, starts-then, starts-wider, one_of, same_one_of, same_symbol, same_word, or_false}
+use Rattle.cep_reading.proofs.Starts.{Avoids, avoids_by, avoids-or, starts-one, starts-word, starts-then, starts-wider, one_of, same_one_of, same_symbol, same_word, or_false, neither}
 use Rattle.cep_reading.proofs.Quiet.{Quiet, Quiet-then, Quiet-pure}
 use Rattle.cep_reading.proofs.Exact.{Exact, nothing, stops_nothing, Exact-pure, exact-symbol, exact-word, Exact-last, Exact-before, Exact-made, Exact-choose, Exact-then, Exact-narrower, Exact-same}
 use Rattle.cep_reading.proofs.Links.{Linked, Sound-links, Complete-links, Agrees-links, Lasts-links}
@@ -22,18 +23,16 @@ use Rattle.cep_syntax.specs.declared.file.Opener.{Opener}
 use Rattle.cep_syntax.specs.declared.file.TypeDecl.{TypeDecl}
 use Rattle.cep_syntax.specs.declared.file.SkipDecl.{SkipDecl}
 use Rattle.cep_syntax.specs.declared.file.PlacedNumber.{PlacedNumber}
+use Rattle.cep_syntax.specs.declared.limit.Limits.{Limits}
 use Rattle.cep_syntax.specs.declared.file.File.{File}
 use Rattle.cep_syntax.specs.declared.link.Building.{Building}
-use Rattle.cep_syntax.specs.Terminal.{opener, is_opener}
-use Rattle.cep_syntax.specs.Links.{started, added, openers_of}
+use Rattle.cep_syntax.specs.Terminal.{opener, is_opener, is_limit}
+use Rattle.cep_syntax.specs.Links.{started, added, limits_of, openers_of}
 use Rattle.cep_syntax.specs.Grammar.{stages}
 use Rattle.cep_syntax.specs.Grammar as grammar
 use Rattle.cep_syntax.specs.Reader as reader
 use Rattle.cep_syntax.proofs.Stages.{of_link, open_link, modifier_link, plain_link, any_link, links-stages, stages-links}
-use Rattle.cep_syntax.proofs.Files.{deep, opener_words, opener_is, is_opener_word, modifier_words, starts-modifier, avoids-words, starts-semicolon, starts-select, exact-of_link, exact-open_link, exact-modifier_link, exact-time_limit, exact-declarations, exact-maybe_skip, exact-maybe_select}
-
-abbrev dot : Lexeme → Bool
-dot = symbol (codes ".")
+use Rattle.cep_syntax.proofs.Files.{deep, opener_words, opener_is, is_opener_word, modifier_words, starts-modifier, avoids-words, starts-semicolon, starts-select, exact-of_link, exact-open_link, exact-modifier_link, dot, both_limits, gap_alone, gap_behind, ending, starts-ending, exact-ending, exact-declarations, exact-maybe_skip, exact-maybe_select}
 
 -- ---- what links begin with
 
@@ -73,9 +72,31 @@ plain_no_of k = plain-avoids k (codes "of") (avoids-words opener_words (codes "o
 plain_no_within : (k : ℕ) → Avoids (plain_link (deep k)) (word (codes "within"))
 plain_no_within k = plain-avoids k (codes "within") (avoids-words opener_words (codes "within") _ refl starts-open_words) (avoids-words modifier_words (codes "within") _ refl (starts-modifier_link k))
 
-link_no_within : (fresh : Bool) (k : ℕ) → Avoids (any_link (deep k) fresh) (word (codes "within"))
-link_no_within true k = avoids-or _ _ (word (codes "within")) (avoids_by _ (word (codes "of")) (word (codes "within")) starts-of_link (λ t e. same_word (codes "of") (codes "within") t e)) (plain_no_within k)
-link_no_within false k = plain_no_within k
+plain_no_gap : (k : ℕ) → Avoids (plain_link (deep k)) (word (codes "withinGap"))
+plain_no_gap k =
+    plain-avoids k (codes "withinGap") (avoids-words opener_words (codes "withinGap") _ refl starts-open_words)
+    (avoids-words modifier_words (codes "withinGap") _ refl (starts-modifier_link k))
+
+avoids-either : {A : Type 0} (r : Rule A) (P Q : Lexeme → Bool) → Avoids r P → Avoids r Q → Avoids r (λ t. P t || Q t)
+avoids-either r P Q one other = record { stops = λ used rest a h. at (used ++ rest) (one.stops used rest a h) (other.stops used rest a h) } where
+  at : (l : Left) → Stops P l → Stops Q l → Stops (λ t. P t || Q t) l
+  at [] e f = refl
+  at (t ∷ l) e f = neither (P t) (Q t) e f
+
+plain_no_limit : (k : ℕ) → Avoids (plain_link (deep k)) is_limit
+plain_no_limit k = avoids-either (plain_link (deep k)) (word (codes "within")) (word (codes "withinGap")) (plain_no_within k) (plain_no_gap k)
+
+-- a word of one text is no limit, unless it is that of one
+no_limit : (text : List ℕ) (t : Lexeme) → bytes_eq text (codes "within") ≡ false → bytes_eq text (codes "withinGap") ≡ false → word text t ≡ true
+    → is_limit t ≡ false
+no_limit text t one other e =
+    neither (word (codes "within") t) (word (codes "withinGap") t) (same_word text (codes "within") t e ∙ one)
+    (same_word text (codes "withinGap") t e ∙ other)
+
+link_no_limit : (fresh : Bool) (k : ℕ) → Avoids (any_link (deep k) fresh) is_limit
+link_no_limit true k =
+    avoids-or _ _ is_limit (avoids_by _ (word (codes "of")) is_limit starts-of_link (λ t e. no_limit (codes "of") t refl refl e)) (plain_no_limit k)
+link_no_limit false k = plain_no_limit k
 
 -- ---- links
 
@@ -111,51 +132,153 @@ sound-dot : Sound (read.sign (codes ".")) (rule.sign (codes "."))
 sound-dot = Sound-one (only dot) (record { kind = token.Symbol; text = codes "."; place = 0 }) tt refl
 
 -- the stages behind the first name, by links
-abbrev linked : ℕ → Building → Rule (Building × Option PlacedNumber)
-linked k s = Linked (codes ".") (codes "within") added grammar.time_limit (λ b. any_link (deep k) b.fresh) s
-
-starts-time_limit : StartsWith grammar.time_limit (word (codes "within"))
-unfolding grammar.time_limit
-starts-time_limit = starts-then _ _ (word (codes "within")) (starts-word (codes "within"))
+abbrev linked : ℕ → Building → Rule (Building × Option Limits)
+linked k s = Linked (codes ".") is_limit added ending (λ b. any_link (deep k) b.fresh) s
 
 module _ {n : ℕ} where
   exact-chain : (s : Building) → Exact false n n (λ k. linked k s) (λ m. reader.chain m s) dot
+  unfolding dot_token
   exact-chain s = record {
-    sound = Sound-links (codes ".") (codes "within") added grammar.time_limit (λ b. any_link (deep (suc n)) b.fresh) (λ b. reader.any_link n b.fresh) reader.time_limit (record { kind = token.Symbol; text = codes "."; place = 0 }) refl
-        (λ b. (exact-any_link b.fresh).sound) ((exact-time_limit {q = false} {n = n} {l = n}).sound) n s;
-    complete = λ k. Complete-links (codes ".") (codes "within") added grammar.time_limit (λ b. any_link (deep k) b.fresh) (λ b. reader.any_link n b.fresh) reader.time_limit nothing stops_nothing
-        (λ b. (exact-any_link b.fresh).complete k) ((exact-time_limit {q = false} {n = n} {l = n}).complete k) starts-time_limit
-        (λ b. link_no_within b.fresh k) n s;
-    agrees = λ m. Agrees-links (codes ".") (codes "within") added grammar.time_limit (λ b. any_link (deep (suc n)) b.fresh) (λ b. reader.any_link n b.fresh) reader.time_limit (record { kind = token.Symbol; text = codes "."; place = 0 }) refl
-        (λ b. (exact-any_link b.fresh).sound) ((exact-time_limit {q = false} {n = n} {l = n}).sound) (λ b. reader.any_link m b.fresh)
-        reader.time_limit (λ b. (exact-any_link b.fresh).agrees m) ((exact-time_limit {q = false} {n = n} {l = n}).agrees m) n m s;
-    lasts = Lasts-links (codes ".") (codes "within") added grammar.time_limit (λ b. any_link (deep (suc n)) b.fresh) (λ b. reader.any_link n b.fresh) reader.time_limit (record { kind = token.Symbol; text = codes "."; place = 0 }) refl
-        (λ b. (exact-any_link b.fresh).sound) ((exact-time_limit {q = false} {n = n} {l = n}).sound) n (λ b. (exact-any_link b.fresh).lasts)
-        ((exact-time_limit {q = false} {n = n} {l = n}).lasts) s;
+    sound = Sound-links (codes ".") is_limit added ending (λ b. any_link (deep (suc n)) b.fresh) (λ b. reader.any_link n b.fresh) reader.ending
+        dot_token refl
+        (λ b. (exact-any_link b.fresh).sound) ((exact-ending {q = false} {n = n} {l = n}).sound) n s;
+    complete = λ k. Complete-links (codes ".") is_limit added ending (λ b. any_link (deep k) b.fresh) (λ b. reader.any_link n b.fresh)
+        reader.ending nothing stops_nothing
+        (λ b. (exact-any_link b.fresh).complete k) ((exact-ending {q = false} {n = n} {l = n}).complete k) starts-ending
+        (λ b. link_no_limit b.fresh k) n s;
+    agrees = λ m. Agrees-links (codes ".") is_limit added ending (λ b. any_link (deep (suc n)) b.fresh) (λ b. reader.any_link n b.fresh) reader.ending
+        dot_token refl
+        (λ b. (exact-any_link b.fresh).sound) ((exact-ending {q = false} {n = n} {l = n}).sound) (λ b. reader.any_link m b.fresh)
+        reader.ending (λ b. (exact-any_link b.fresh).agrees m) ((exact-ending {q = false} {n = n} {l = n}).agrees m) n m s;
+    lasts = Lasts-links (codes ".") is_limit added ending (λ b. any_link (deep (suc n)) b.fresh) (λ b. reader.any_link n b.fresh) reader.ending
+        dot_token refl
+        (λ b. (exact-any_link b.fresh).sound) ((exact-ending {q = false} {n = n} {l = n}).sound) n (λ b. (exact-any_link b.fresh).lasts)
+        ((exact-ending {q = false} {n = n} {l = n}).lasts) s;
     quiet = λ e. cc;
   }
 
   warns-chain : (s : Building) → Warns n (reader.chain n s) (λ k. up_to_link (codes ".") added (λ b. any_link (deep k) b.fresh) s)
   warns-chain s =
-      Warns-links (codes ".") (codes "within") added n (λ k b. any_link (deep k) b.fresh) (λ b. reader.any_link n b.fresh) reader.time_limit sound-dot (λ b. (exact-any_link b.fresh).sound) (λ k b. (exact-any_link b.fresh).complete k)
-      (λ k b. link_no_within b.fresh k) (λ b. warns-any_link n b.fresh) ((exact-time_limit {q = true} {n = n} {l = n}).quiet refl) (λ t e. same_word (codes "greedy") (codes "within") t e) s
+      Warns-links (codes ".") is_limit added n (λ k b. any_link (deep k) b.fresh) (λ b. reader.any_link n b.fresh) reader.ending
+      sound-dot (λ b. (exact-any_link b.fresh).sound) (λ k b. (exact-any_link b.fresh).complete k)
+      (λ k b. link_no_limit b.fresh k) (λ b. warns-any_link n b.fresh) ((exact-ending {q = true} {n = n} {l = n}).quiet refl)
+      (λ t e. no_limit (codes "greedy") t refl refl e) s
 
 -- ---- the pattern by links is the pattern by stages
 
-module _ (e : Rule SynExpr) where
-  abbrev limits : Rule (Option PlacedNumber)
-  limits = rule.maybe (rule.◌>>◌ (rule.sign (codes ".")) grammar.time_limit)
+-- the one part of a rule that makes its value of it, and such a rule of the part
+whole : {A B : Type 0} (r : Rule A) (f : A → B) (used : Left) (b : B) → rule.◌>>=◌ r (λ a. rule.pure (f a)) used b → (a : A) × r used a × (b ≡ f a)
+whole r f used b h =
+    (h.value, subst (λ l. r l h.value) (sym (h.is ∙ ap (λ l. h.front ++ l) h.second.0 ∙ append-nil h.front)) h.first, h.second.1)
 
-  abbrev ended : List Opener × Option PlacedNumber → Rule (List Opener × Option PlacedNumber)
+made : {A B : Type 0} (r : Rule A) (f : A → B) (used : Left) (a : A) → r used a → rule.◌>>=◌ r (λ x. rule.pure (f x)) used (f a)
+made r f used a h = record { front = used; back = []; value = a; is = sym (append-nil used); first = h; second = (refl, refl) }
+
+abbrev ends_so : Rule (Option Limits)
+ends_so = rule.maybe (rule.◌>>◌ (rule.sign (codes ".")) ending)
+
+abbrev within_behind : Rule (Option PlacedNumber)
+within_behind = rule.maybe (rule.◌>>◌ (rule.sign (codes ".")) (grammar.limited (codes "within")))
+
+-- a dot with the limits behind it, or nothing, is the one limit and the other
+ending_limits : (used : Left) (w : Option Limits) → ends_so used w → grammar.limits used (limits_of w)
+ending_limits used w (inr h) =
+    subst (λ x. grammar.limits used (limits_of x)) (sym h.1) (subst (λ l. grammar.limits l (limits_of None)) (sym h.0) (record {
+      front = [];
+      back = [];
+      value = None;
+      is = refl;
+      first = inr (refl, refl);
+      second = made gap_behind (λ gap. record { within = None; within_gap = gap }) [] None (inr (refl, refl));
+    }))
+ending_limits used w (inl h) =
+    let k = whole (rule.◌>>◌ (rule.sign (codes ".")) ending) Some used w h in
+    subst (λ x. grammar.limits used (limits_of x)) (sym k.2) (cases k.0 k.1 k.1.second) where
+      cases : (l : Limits) (k : rule.◌>>◌ (rule.sign (codes ".")) ending used l) → ending k.back l → grammar.limits used l
+      cases l k (inl m) =
+          let n = whole gap_behind (both_limits m.value) m.back l m.second in
+          subst (grammar.limits used) (sym n.2) (record {
+            front = k.front ++ m.front;
+            back = m.back;
+            value = Some m.value;
+            is = k.is ∙ ap (λ x. k.front ++ x) m.is ∙ sym (append_assoc k.front m.front m.back);
+            first = inl (made (rule.◌>>◌ (rule.sign (codes ".")) (grammar.limited (codes "within"))) Some (k.front ++ m.front) m.value
+                (record { front = k.front; back = m.front; value = k.value; is = refl; first = k.first; second = m.first }));
+            second = made gap_behind (both_limits m.value) m.back n.0 n.1;
+          })
+      cases l k (inr m) =
+          let n = whole (grammar.limited (codes "withinGap")) gap_alone k.back l m in
+          subst (grammar.limits used) (sym n.2) (record {
+            front = [];
+            back = used;
+            value = None;
+            is = refl;
+            first = inr (refl, refl);
+            second = made gap_behind (λ gap. record { within = None; within_gap = gap }) used (Some n.0)
+                (inl (made (rule.◌>>◌ (rule.sign (codes ".")) (grammar.limited (codes "withinGap"))) Some used n.0
+                (record { front = k.front; back = k.back; value = k.value; is = k.is; first = k.first; second = n.1 })));
+          })
+
+limits_ending : (used : Left) (v : Limits) → grammar.limits used v → (w : Option Limits) × ends_so used w × (limits_of w ≡ v)
+limits_ending used v h =
+    let q = whole gap_behind (λ gap. record { within = h.value; within_gap = gap }) h.back v h.second in
+    cases h.front h.back h.value q.0 h.is q.2 h.first q.1 where
+      cases : (front back : Left) (within gap : Option PlacedNumber) → used ≡ front ++ back → v ≡ record { within = within; within_gap = gap }
+          → within_behind front within → gap_behind back gap → (w : Option Limits) × ends_so used w × (limits_of w ≡ v)
+      cases front back within gap is v_is (inl a) g =
+          let x = whole (rule.◌>>◌ (rule.sign (codes ".")) (grammar.limited (codes "within"))) Some front within a in
+          let k = x.1 in (
+            Some (both_limits x.0 gap),
+            inl (made (rule.◌>>◌ (rule.sign (codes ".")) ending) Some used (both_limits x.0 gap) (record {
+              front = k.front;
+              back = k.back ++ back;
+              value = k.value;
+              is = is ∙ ap (λ l. l ++ back) k.is ∙ append_assoc k.front k.back back;
+              first = k.first;
+              second = inl (record {
+                front = k.back;
+                back = back;
+                value = x.0;
+                is = refl;
+                first = k.second;
+                second = made gap_behind (both_limits x.0) back gap g;
+              });
+            })),
+            sym (v_is ∙ (λ i. record { within = x.2 i; within_gap = gap })),
+          )
+      cases front back within gap is v_is (inr a) (inl g) =
+          let x = whole (rule.◌>>◌ (rule.sign (codes ".")) (grammar.limited (codes "withinGap"))) Some back gap g in
+          let k = x.1 in (
+            Some (gap_alone x.0),
+            inl (made (rule.◌>>◌ (rule.sign (codes ".")) ending) Some used (gap_alone x.0) (record {
+              front = k.front;
+              back = k.back;
+              value = k.value;
+              is = is ∙ ap (λ l. l ++ back) a.0 ∙ k.is;
+              first = k.first;
+              second = inr (made (grammar.limited (codes "withinGap")) gap_alone k.back x.0 k.second);
+            })),
+            sym (v_is ∙ (λ i. record { within = a.1 i; within_gap = x.2 i })),
+          )
+      cases front back within gap is v_is (inr a) (inr g) = (
+        None,
+        inr (is ∙ ap (λ l. l ++ back) a.0 ∙ g.0, refl),
+        sym (v_is ∙ (λ i. record { within = a.1 i; within_gap = g.1 i })),
+      )
+
+module _ (e : Rule SynExpr) where
+  abbrev ended : List Opener × Limits → Rule (List Opener × Limits)
   ended found = rule.◌>>◌ (rule.sign (codes ";")) (rule.pure found)
 
-  abbrev by_links : Name → Rule (List Opener × Option PlacedNumber)
-  by_links name = rule.◌>>=◌ (Linked (codes ".") (codes "within") added grammar.time_limit (λ b. any_link e b.fresh) (started name)) (λ built. ended (openers_of built.0, built.1))
+  abbrev by_links : Name → Rule (List Opener × Limits)
+  by_links name =
+      rule.◌>>=◌ (Linked (codes ".") is_limit added ending (λ b. any_link e b.fresh) (started name))
+      (λ built. ended (openers_of built.0, limits_of built.1))
 
-  abbrev by_stages : Name → Rule (List Opener × Option PlacedNumber)
-  by_stages name = rule.◌>>=◌ (stages e name) (λ openers. rule.◌>>=◌ limits (λ limit. ended (openers, limit)))
+  abbrev by_stages : Name → Rule (List Opener × Limits)
+  by_stages name = rule.◌>>=◌ (stages e name) (λ openers. rule.◌>>=◌ grammar.limits (λ bounds. ended (openers, bounds)))
 
-  to_stages : (name : Name) (used : Left) (v : List Opener × Option PlacedNumber) → by_links name used v → by_stages name used v
+  to_stages : (name : Name) (used : Left) (v : List Opener × Limits) → by_links name used v → by_stages name used v
   to_stages name used v h =
       let l = h.first in
       let back_is : l.back ≡ l.second.front = l.second.is ∙ ap (λ ts. l.second.front ++ ts) l.second.second.0 ∙ append-nil l.second.front in
@@ -169,21 +292,22 @@ module _ (e : Rule SynExpr) where
             record {
               front = l.second.front;
               back = h.back;
-              value = l.second.value;
+              value = limits_of l.second.value;
               is = refl;
-              first = l.second.first;
+              first = ending_limits l.second.front l.second.value l.second.first;
               second =
-                  subst (λ b. ended (openers_of b.0, b.1) h.back v) l.second.second.1 h.second;
+                  subst (λ b. ended (openers_of b.0, limits_of b.1) h.back v) l.second.second.1 h.second;
             };
       }
 
-  to_links : (name : Name) (used : Left) (v : List Opener × Option PlacedNumber) → by_stages name used v → by_links name used v
+  to_links : (name : Name) (used : Left) (v : List Opener × Limits) → by_stages name used v → by_links name used v
   to_links name used v h =
       let k = stages-links e name h.front h.value h.first in
+      let w = limits_ending h.second.front h.second.value h.second.first in
       record {
         front = h.front ++ h.second.front;
         back = h.second.back;
-        value = (k.0, h.second.value);
+        value = (k.0, w.0);
         is = h.is ∙ ap (λ ts. h.front ++ ts) h.second.is ∙ sym (append_assoc h.front h.second.front h.second.back);
         first = record {
           front = h.front;
@@ -195,14 +319,15 @@ module _ (e : Rule SynExpr) where
               record {
                 front = h.second.front;
                 back = [];
-                value = h.second.value;
+                value = w.0;
                 is = sym (append-nil h.second.front);
-                first =
-                    h.second.first;
+                first = w.1;
                 second = (refl, refl);
               };
         };
-        second = subst (λ openers. ended (openers, h.second.value) h.second.back v) (sym k.2) h.second.second;
+        second =
+            subst (λ openers. ended (openers, limits_of w.0) h.second.back v) (sym k.2)
+            (subst (λ bounds. ended (h.value, bounds) h.second.back v) (sym w.2) h.second.second);
       }
 
   -- up to the sign of one more link
@@ -241,7 +366,7 @@ Warns-same n p g h to from warns = record {
   given = λ k used rest t f e. warns.given k used rest t (from k used f) e;
 }
 
-end_quiet : (v : List Opener × Option PlacedNumber) → Quiet (read.◌>>◌ (read.sign (codes ";")) (read.pure v))
+end_quiet : (v : List Opener × Limits) → Quiet (read.◌>>◌ (read.sign (codes ";")) (read.pure v))
 end_quiet v = Quiet-then _ _ ((exact-symbol {q = true} {n = 0} {l = 0} (codes ";") nothing refl).quiet refl) (λ _. Quiet-pure v)
 
 abbrev in_pattern : ℕ → Rule (Unit {0})
@@ -251,11 +376,13 @@ in_pattern k =
 
 module _ {n : ℕ} where
   -- the chain and the end of the pattern, by stages
-  exact-stages : (name : Name) → Exact false n n (λ k. by_stages (deep k) name) (λ m. read.◌>>=◌ (reader.chain m (started name)) (λ built. read.◌>>◌ (read.sign (codes ";")) (read.pure (openers_of built.0, built.1)))) nothing
+  exact-stages : (name : Name) → Exact false n n (λ k. by_stages (deep k) name)
+      (λ m. read.◌>>=◌ (reader.chain m (started name))
+      (λ built. read.◌>>◌ (read.sign (codes ";")) (read.pure (openers_of built.0, limits_of built.1)))) nothing
   exact-stages name =
       Exact-same (λ k. by_links (deep k) name) (λ k. by_stages (deep k) name) _ nothing (λ k. to_stages (deep k) name) (λ k. to_links (deep k) name)
       (Exact-before _ _ _ _ dot nothing (symbol (codes ";")) (exact-chain (started name))
-      (λ built. Exact-last _ _ _ _ nothing (exact-symbol (codes ";") nothing refl) (λ _. Exact-pure (openers_of built.0, built.1) nothing))
+      (λ built. Exact-last _ _ _ _ nothing (exact-symbol (codes ";") nothing refl) (λ _. Exact-pure (openers_of built.0, limits_of built.1) nothing))
       (λ k built. starts-semicolon _) (λ t e. same_symbol (codes ";") (codes ".") t e))
 
   exact-pattern : Exact false n n (λ k. grammar.pattern (deep k)) reader.pattern nothing
@@ -304,8 +431,15 @@ no_second_skip : (e : Rule SynExpr) (used rest : Left) (a : Option (List SynExpr
 no_second_skip e used rest a (inl h) stops = select_is_no_skip (used ++ rest) ((starts-then _ _ (word (codes "select")) (starts-select e)).begins used rest a h)
 no_second_skip e used rest a (inr h) stops = subst (λ ts. Stops (word (codes "skip")) (ts ++ rest)) (sym h.0) (file_parts rest stops).1
 
-abbrev file_of : List TypeDecl → List Opener × Option PlacedNumber → Option SkipDecl → Option (List SynExpr) → File
-file_of types found after shown = record { types = types; openers = found.0; within = found.1; skip = after; select = shown }
+abbrev file_of : List TypeDecl → List Opener × Limits → Option SkipDecl → Option (List SynExpr) → File
+file_of types found after shown = record {
+  types = types;
+  openers = found.0;
+  within = found.1.within;
+  within_gap = found.1.within_gap;
+  skip = after;
+  select = shown;
+}
 
 pattern_is_no_event : (ts : Left) → next_is (word (codes "pattern")) ts ≡ true → Stops (word (codes "event")) ts
 pattern_is_no_event [] e = refl
@@ -313,7 +447,7 @@ pattern_is_no_event (t ∷ ts) e = same_word (codes "pattern") (codes "event") t
 
 module _ {n : ℕ} where
   -- what comes behind the pattern
-  exact-rest : {q : Bool} (types : List TypeDecl) (found : List Opener × Option PlacedNumber)
+  exact-rest : {q : Bool} (types : List TypeDecl) (found : List Opener × Limits)
       → Exact q n n (λ k. rule.◌>>=◌ (rule.maybe grammar.skip)
       (λ after. rule.◌>>=◌ (rule.maybe (grammar.select (deep k))) (λ shown. rule.pure (file_of types found after shown))))
       (λ m. read.◌>>=◌ reader.maybe_skip (λ after. read.◌>>=◌ (reader.maybe_select m) (λ shown. read.pure (file_of types found after shown)))) goes_on_file

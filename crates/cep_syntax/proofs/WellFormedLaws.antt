@@ -21,7 +21,8 @@ use Rattle.cep_syntax.specs.declared.file.OpenKind.{OpenKind}
 use Rattle.cep_syntax.specs.declared.file.OpenKind.TheVariants.{Begin, Next, FollowedBy, FollowedByAny, NotNext, NotFollowedBy}
 use Rattle.cep_syntax.specs.declared.file.ModKind.{ModKind}
 use Rattle.cep_syntax.specs.declared.file.Opener.{Opener}
-use Rattle.cep_syntax.specs.declared.file.PlacedNumber.{PlacedNumber}
+use Rattle.cep_syntax.specs.declared.file.SkipDecl.{SkipDecl}
+use Rattle.cep_syntax.specs.declared.limit.Limits.{Limits}
 use Rattle.cep_syntax.specs.declared.file.File.{File}
 use Rattle.cep_syntax.specs.Terminal.{kind_of, opener}
 use Rattle.cep_syntax.specs.Grammar as grammar
@@ -72,9 +73,9 @@ gives-of_name =
     Gives-last _ _ _ (λ _. Gives-last _ _ _ (λ _. Gives-then _ _ (λ name. form.is_word name.text) _ gives-any_word
     (λ name e. Gives-last _ _ _ (λ _. Gives-pure name _ e))))
 
-gives-limit : Gives grammar.time_limit (λ n. is_number n.value)
-unfolding grammar.time_limit
-gives-limit =
+gives-limited : (text : List ℕ) → Gives (grammar.limited text) (λ n. is_number n.value)
+unfolding grammar.limited
+gives-limited text =
     Gives-last _ _ _ (λ _. Gives-last _ _ _ (λ _. Gives-then _ _ (λ found. is_number found.1) _ (Gives-placed _ is_number gives-number)
     (λ found e. Gives-last _ _ _ (λ _. Gives-pure (grammar.placed_number found) (λ n. is_number n.value) e))))
 
@@ -195,11 +196,36 @@ openers_form first more e f =
     (both_true (is_begin first.how) (list_all (λ o. not (is_begin o.how)) more) k.1 later.1)
     (both_true (is_formed_opener first) (list_all is_formed_opener more) k.0 later.0)
 
-abbrev PatternTest : List Opener × Option PlacedNumber → Bool
-PatternTest found = OpenersTest found.0 && of_some (λ n. is_number n.value) found.1
+abbrev LimitsTest : Limits → Bool
+LimitsTest bounds = of_some (λ n. is_number n.value) bounds.within && of_some (λ n. is_number n.value) bounds.within_gap
+
+abbrev PatternTest : List Opener × Limits → Bool
+PatternTest found = OpenersTest found.0 && LimitsTest found.1
+
+gives-limits : Gives grammar.limits LimitsTest
+gives-limits =
+    Gives-then _ _ (of_some (λ x. is_number x.value)) LimitsTest
+    (Gives-maybe _ (λ x. is_number x.value) (Gives-last _ _ (λ x. is_number x.value) (λ _. gives-limited (codes "within"))))
+    (λ within f. Gives-then _ _ (of_some (λ x. is_number x.value)) LimitsTest
+    (Gives-maybe _ (λ x. is_number x.value) (Gives-last _ _ (λ x. is_number x.value) (λ _. gives-limited (codes "withinGap"))))
+    (λ gap g. Gives-pure (record { within = within; within_gap = gap }) LimitsTest
+    (both_true (of_some (λ x. is_number x.value) within) (of_some (λ x. is_number x.value) gap) f g)))
+
+abbrev bounds_of : File → Limits
+bounds_of f = record { within = f.within; within_gap = f.within_gap }
 
 abbrev FileTest : File → Bool
-FileTest f = list_all is_formed_type f.types && (PatternTest (f.openers, f.within) && (of_some is_formed_skip f.skip && of_some is_formed_select f.select))
+FileTest f = list_all is_formed_type f.types && (PatternTest (f.openers, bounds_of f) && (of_some is_formed_skip f.skip && of_some is_formed_select f.select))
+
+abbrev file_of : List TypeDecl → List Opener × Limits → Option SkipDecl → Option (List SynExpr) → File
+file_of types found after shown = record {
+  types = types;
+  openers = found.0;
+  within = found.1.within;
+  within_gap = found.1.within_gap;
+  skip = after;
+  select = shown;
+}
 
 gives-skip : Gives grammar.skip is_formed_skip
 unfolding grammar.skip
@@ -240,10 +266,9 @@ module _ (e : Rule SynExpr) (inner : Gives e is_formed) where
       Gives-last _ _ PatternTest (λ _. Gives-last _ _ PatternTest
       (λ _. Gives-last _ _ PatternTest (λ _. Gives-then _ _ (λ name. is_name name.text) PatternTest gives-stage_name
       (λ name n. Gives-last _ _ PatternTest (λ _. Gives-then _ _ OpenersTest PatternTest (gives-stages name n)
-      (λ openers f. Gives-then _ _ (of_some (λ x. is_number x.value)) PatternTest
-      (Gives-maybe _ (λ x. is_number x.value) (Gives-last _ _ (λ x. is_number x.value) (λ _. gives-limit)))
-      (λ limit g. Gives-last _ _ PatternTest (λ _. Gives-pure (openers, limit) PatternTest
-      (both_true (OpenersTest openers) (of_some (λ x. is_number x.value) limit) f g)))))))))
+      (λ openers f. Gives-then _ _ LimitsTest PatternTest gives-limits
+      (λ bounds g. Gives-last _ _ PatternTest (λ _. Gives-pure (openers, bounds) PatternTest
+      (both_true (OpenersTest openers) (LimitsTest bounds) f g)))))))))
 
   gives-select : Gives (grammar.select e) is_formed_select
   unfolding grammar.select
@@ -261,7 +286,7 @@ module _ (e : Rule SynExpr) (inner : Gives e is_formed) where
       (λ types f. Gives-then _ _ PatternTest FileTest gives-pattern
       (λ found g. Gives-then _ _ (of_some is_formed_skip) FileTest (Gives-maybe _ is_formed_skip gives-skip)
       (λ after h. Gives-then _ _ (of_some is_formed_select) FileTest (Gives-maybe _ is_formed_select gives-select)
-      (λ shown k. Gives-pure (record { types = types; openers = found.0; within = found.1; skip = after; select = shown }) FileTest
+      (λ shown k. Gives-pure (file_of types found after shown) FileTest
       (both_true (list_all is_formed_type types) _ f
       (both_true (PatternTest found) _ g (both_true (of_some is_formed_skip after) (of_some is_formed_select shown) h k)))))))
 
@@ -350,9 +375,10 @@ pub is_well_formed : (used : Left) (f : File) → IsFile used f → list_all has
 is_well_formed used f h formed short =
     let all = (gives-file (expression_within h.0) (gives-expression h.0)).gives used f formed h.1 in
     let a = and_true (list_all is_formed_type f.types) _ all in
-    let b = and_true (PatternTest (f.openers, f.within)) _ a.1 in
+    let b = and_true (PatternTest (f.openers, bounds_of f)) _ a.1 in
     let pattern = and_true (OpenersTest f.openers) _ b.0 in
     let openers = and_true (begins_once f.openers) _ pattern.0 in
+    let bounds = and_true (of_some (λ n. is_number n.value) f.within) _ pattern.1 in
     let tail = and_true (of_some is_formed_skip f.skip) _ b.1 in
     let few = few_by_weight f.types in
     let one = few.0 in
@@ -364,7 +390,8 @@ is_well_formed used f h formed short =
       few_fields = omega (arith, two, all_types);
       begins = openers.0;
       openers = openers.1;
-      limit = pattern.1;
+      limit = bounds.0;
+      gap = bounds.1;
       skips = tail.0;
       shows = tail.1;
     }

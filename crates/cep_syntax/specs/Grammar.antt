@@ -1,5 +1,5 @@
 -- The grammar of pattern files, by its productions. Quoted words are Words with that text.
-use Rattle.std.specs.Prelude.{ℕ, List, [], ◌∷◌, ◌++◌, Option, Some, None, codes}
+use Rattle.std.specs.Prelude.{ℕ, List, [], ◌∷◌, ◌++◌, Some, None, codes}
 use Rattle.cep_reading.specs.declared.name.Name.{Name}
 use Rattle.cep_expression.specs.declared.expr.SynExpr.{SynExpr}
 use Rattle.cep_syntax.specs.declared.file.FieldDecl.{FieldDecl}
@@ -12,6 +12,7 @@ use Rattle.cep_syntax.specs.declared.file.ModKind.TheVariants.{Filter, Until, Ti
 use Rattle.cep_syntax.specs.declared.file.Modifier.{Modifier}
 use Rattle.cep_syntax.specs.declared.file.Opener.{Opener}
 use Rattle.cep_syntax.specs.declared.file.PlacedNumber.{PlacedNumber}
+use Rattle.cep_syntax.specs.declared.limit.Limits.{Limits}
 use Rattle.cep_syntax.specs.declared.file.SkipDecl.{SkipDecl}
 use Rattle.cep_syntax.specs.declared.file.SkipDecl.TheVariants.{No, ToNext, PastLast, ToFirst, ToLast}
 use Rattle.cep_syntax.specs.declared.file.File.{File}
@@ -76,14 +77,21 @@ opener_named = do
 abbrev pub placed_number : ℕ × ℕ → PlacedNumber
 placed_number (place, value) = record { value = value; place = place }
 
--- "within" "(" Number ")"
-unfoldable pub time_limit : Rule PlacedNumber
-time_limit = do
-  keyword (codes "within")
+-- the word and "(" Number ")"
+unfoldable pub limited : List ℕ → Rule PlacedNumber
+limited text = do
+  keyword text
   sign (codes "(")
   found ← placed (one number)
   sign (codes ")")
   pure (placed_number found)
+
+-- [ "." "within" "(" Number ")" ] [ "." "withinGap" "(" Number ")" ]
+abbrev pub limits : Rule Limits
+limits = do
+  within ← maybe (sign (codes ".") >> limited (codes "within"))
+  gap ← maybe (sign (codes ".") >> limited (codes "withinGap"))
+  pure (record { within = within; within_gap = gap })
 
 -- "(" Number [ "," Number ] ")"
 unfoldable pub times : Rule ModKind
@@ -180,8 +188,8 @@ module _ (expr : Rule SynExpr) where
     more ← many next_stage
     pure (first ∷ more)
 
-  -- pattern = "pattern" "begin" "(" Name ")" stage { "." opener "(" Name ")" stage } [ "." "within" "(" Number ")" ] ";"
-  unfoldable pub pattern : Rule (List Opener × Option PlacedNumber)
+  -- pattern = "pattern" "begin" "(" Name ")" stage { "." opener "(" Name ")" stage } limits ";"
+  unfoldable pub pattern : Rule (List Opener × Limits)
   pattern = do
     keyword (codes "pattern")
     keyword (codes "begin")
@@ -189,9 +197,9 @@ module _ (expr : Rule SynExpr) where
     name ← one stage_name
     sign (codes ")")
     openers ← stages name
-    limit ← maybe (sign (codes ".") >> time_limit)
+    bounds ← limits
     sign (codes ";")
-    pure (openers, limit)
+    pure (openers, bounds)
 
   -- select = "select" expr { "," expr } ";"
   unfoldable pub select : Rule (List SynExpr)
@@ -209,7 +217,7 @@ module _ (expr : Rule SynExpr) where
     found ← pattern
     after ← maybe skip
     shown ← maybe select
-    pure (record { types = types; openers = found.0; within = found.1; skip = after; select = shown })
+    pure (record { types = types; openers = found.0; within = found.1.within; within_gap = found.1.within_gap; skip = after; select = shown })
 
   -- the tokens of a file up to a place where a modifier may stand: behind a dot that comes behind a stage
   unfoldable pub before_modifier : Rule (Unit {0})

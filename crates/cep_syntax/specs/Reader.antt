@@ -13,6 +13,7 @@ use Rattle.cep_syntax.specs.declared.file.ModKind.TheVariants.{Filter, Until, Ti
 use Rattle.cep_syntax.specs.declared.file.Modifier.{Modifier}
 use Rattle.cep_syntax.specs.declared.file.Opener.{Opener}
 use Rattle.cep_syntax.specs.declared.file.PlacedNumber.{PlacedNumber}
+use Rattle.cep_syntax.specs.declared.limit.Limits.{Limits}
 use Rattle.cep_syntax.specs.declared.file.SkipDecl.{SkipDecl}
 use Rattle.cep_syntax.specs.declared.file.SkipDecl.TheVariants.{No, ToNext, PastLast, ToFirst, ToLast}
 use Rattle.cep_syntax.specs.declared.file.File.{File}
@@ -21,9 +22,9 @@ use Rattle.cep_syntax.specs.declared.link.Link.{Link}
 use Rattle.cep_syntax.specs.declared.link.Link.TheVariants.{Of, Mod, Open}
 use Rattle.cep_reading.specs.Terminal.{symbol, word, any_word, is_any_word, stage_name, number}
 use Rattle.cep_reading.specs.Reading.{Reader, ◌>>=◌, ◌>>◌, pure, one, sign, keyword, choose, unless, branch, many, links, placed}
-use Rattle.cep_syntax.specs.Terminal.{kind_of, opener, is_opener}
+use Rattle.cep_syntax.specs.Terminal.{kind_of, opener, is_opener, is_limit}
 use Rattle.cep_syntax.specs.Grammar.{placed_modifier, placed_number}
-use Rattle.cep_syntax.specs.Links.{started, added, openers_of}
+use Rattle.cep_syntax.specs.Links.{started, added, limits_of, openers_of}
 
 -- ---- types
 
@@ -80,13 +81,22 @@ opener_named = do
   sign (codes ")")
   pure (how, name)
 
-unfoldable pub time_limit : Reader PlacedNumber
-time_limit = do
-  keyword (codes "within")
+unfoldable pub limited : List ℕ → Reader PlacedNumber
+limited text = do
+  keyword text
   sign (codes "(")
   found ← placed (one number)
   sign (codes ")")
   pure (placed_number found)
+
+unfoldable pub gap_behind : Reader (Option PlacedNumber)
+gap_behind = choose (symbol (codes ".")) ((sign (codes ".") >> limited (codes "withinGap")) >>= (λ gap. pure (Some gap))) (pure None)
+
+unfoldable pub ending : Reader Limits
+ending =
+    choose (word (codes "within"))
+    (limited (codes "within") >>= (λ within. gap_behind >>= (λ gap. pure (record { within = Some within; within_gap = gap }))))
+    (limited (codes "withinGap") >>= (λ gap. pure (record { within = None; within_gap = Some gap })))
 
 unfoldable pub upper : Reader (Option ℕ)
 upper = choose (symbol (codes ",")) ((sign (codes ",") >> one number) >>= (λ n. pure (Some n))) (pure None)
@@ -173,10 +183,10 @@ abbrev pub any_link : ℕ → Bool → Reader Link
 any_link room true = choose (word (codes "of")) of_link (plain_link room)
 any_link room false = plain_link room
 
-abbrev pub chain : ℕ → Building → Reader (Building × Option PlacedNumber)
-chain room = links room (codes ".") (codes "within") added (λ b. any_link room b.fresh) time_limit
+abbrev pub chain : ℕ → Building → Reader (Building × Option Limits)
+chain room = links room (codes ".") is_limit added (λ b. any_link room b.fresh) ending
 
-unfoldable pub pattern : ℕ → Reader (List Opener × Option PlacedNumber)
+unfoldable pub pattern : ℕ → Reader (List Opener × Limits)
 pattern room = do
   keyword (codes "pattern")
   keyword (codes "begin")
@@ -185,7 +195,7 @@ pattern room = do
   sign (codes ")")
   built ← chain room (started name)
   sign (codes ";")
-  pure (openers_of built.0, built.1)
+  pure (openers_of built.0, limits_of built.1)
 
 -- ---- the skip and the select
 
@@ -228,4 +238,4 @@ file room = do
   found ← pattern room
   after ← maybe_skip
   shown ← maybe_select room
-  pure (record { types = types; openers = found.0; within = found.1; skip = after; select = shown })
+  pure (record { types = types; openers = found.0; within = found.1.within; within_gap = found.1.within_gap; skip = after; select = shown })

@@ -21,6 +21,10 @@ opener t =
     else (if word (codes "notFollowedBy") t then Some NotFollowedBy
     else None))))
 
+-- a limit is "within" or "withinGap"
+abbrev pub is_limit : Lexeme → Bool
+is_limit t = word (codes "within") t || word (codes "withinGap") t
+
 abbrev pub is_opener : Lexeme → Bool
 is_opener t =
     word (codes "next") t || (word (codes "followedBy") t || (word (codes "followedByAny") t || (word (codes "notNext") t || word (codes "notFollowedBy") t)))

@@ -129,5 +129,6 @@ pub record IsWellFormed (f : File) : Type 0 where
   pub begins : begins_once f.openers ≡ true
   pub openers : list_all is_formed_opener f.openers ≡ true
   pub limit : of_some (λ n. is_number n.value) f.within ≡ true
+  pub gap : of_some (λ n. is_number n.value) f.within_gap ≡ true
   pub skips : of_some is_formed_skip f.skip ≡ true
   pub shows : of_some is_formed_select f.select ≡ true

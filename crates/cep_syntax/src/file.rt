@@ -93,6 +93,8 @@ pub struct File {
     pub openers: OpenerList,
     /// In milliseconds of event time; it bounds the whole pattern.
     pub within: Option<PlacedNumber>,
+    /// In milliseconds of event time; it bounds the time between neighbouring events of a match.
+    pub within_gap: Option<PlacedNumber>,
     pub skip: Option<SkipDecl>,
     pub select: Option<SynExprList>,
 }

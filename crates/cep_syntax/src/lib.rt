@@ -5,6 +5,7 @@ mod declaration;
 mod depth;
 mod fault;
 mod file;
+mod limit;
 mod link;
 mod modifier;
 mod pattern;

@@ -5,30 +5,19 @@ ghost use Rattle.cep_reading.specs.Reading.{Reads};
 ghost use Rattle.cep_syntax.specs.Links as links;
 ghost use Rattle.cep_syntax.specs.Reader as spec;
 
-use crate::file::{OpenerList, PlacedNumber};
+use crate::file::OpenerList;
+use crate::limit::{Limits, ending, limits_of, sees_limit};
 use crate::link::{Building, added, any_link, openers_of, started};
-use cep_reading::{Cursor, Name, Stop, number, stage_name};
+use cep_reading::{Cursor, Name, Stop, stage_name};
 use std::alloc::Global;
 
-#[tactic(auto, unfolding(crate::specs::Reader::time_limit))]
-fn time_limit(cursor: &mut Cursor<'_>) -> Result<PlacedNumber, Stop>
-    ensures { Reads (spec.time_limit cursor.old) result cursor.new }
-{
-    cursor.expect_word("within")?;
-    cursor.expect_symbol("(")?;
-    let place = cursor.place();
-    let value = number(cursor)?;
-    cursor.expect_symbol(")")?;
-    Ok(PlacedNumber { value, place })
-}
-
-/// The stages behind the first name, and what bounds the whole pattern, which comes last.
+/// The stages behind the first name, and the limits of time, which come last.
 fn chain(
     alloc: Global,
     cursor: &mut Cursor<'_>,
     room: usize,
     name: Name,
-) -> Result<(Building, Option<PlacedNumber>), Stop>
+) -> Result<(Building, Option<Limits>), Stop>
     ensures { Reads (spec.chain room (links.started name) cursor.old) result cursor.new }
 {
     let mut building = started(alloc, name);
@@ -37,9 +26,9 @@ fn chain(
             return Ok((building, None));
         }
         cursor.expect_symbol(".")?;
-        if cursor.sees_word("within") {
-            let limit = time_limit(cursor)?;
-            return Ok((building, Some(limit)));
+        if sees_limit(cursor) {
+            let limits = ending(cursor)?;
+            return Ok((building, Some(limits)));
         }
         let link = any_link(alloc, cursor, room, building.fresh)?;
         building = added(alloc, building, link)?;
@@ -52,7 +41,7 @@ pub fn pattern(
     alloc: Global,
     cursor: &mut Cursor<'_>,
     room: usize,
-) -> Result<(OpenerList, Option<PlacedNumber>), Stop>
+) -> Result<(OpenerList, Limits), Stop>
     ensures { Reads (spec.pattern room cursor.old) result cursor.new }
 {
     cursor.expect_word("pattern")?;
@@ -60,8 +49,8 @@ pub fn pattern(
     cursor.expect_symbol("(")?;
     let name = stage_name(alloc, cursor)?;
     cursor.expect_symbol(")")?;
-    let (building, limit) = chain(alloc, cursor, room, name)?;
+    let (building, ended) = chain(alloc, cursor, room, name)?;
     cursor.expect_symbol(";")?;
     let openers = openers_of(building)?;
-    Ok((openers, limit))
+    Ok((openers, limits_of(ended)))
 }

@@ -28,13 +28,14 @@ fn file(alloc: Global, cursor: &mut Cursor<'_>, room: usize) -> Result<File, Sto
     ensures { Reads (spec.file room cursor.old) result cursor.new }
 {
     let types = declarations(alloc, cursor, room)?;
-    let (openers, within) = pattern(alloc, cursor, room)?;
+    let (openers, limits) = pattern(alloc, cursor, room)?;
     let skip = maybe_skip(alloc, cursor)?;
     let select = maybe_select(alloc, cursor, room)?;
     Ok(File {
         types,
         openers,
-        within,
+        within: limits.within,
+        within_gap: limits.within_gap,
         skip,
         select,
     })

@@ -47,6 +47,12 @@ fn each_production_is_read(rt: HostRuntime) -> Result<(), Fail> {
             "pattern begin(\"a\").next(\"b\").of(B).where(true).within(9223372036854775807);",
             "ok 0 2",
         ),
+        ("pattern begin(\"a\").withinGap(5);", "ok 0 1"),
+        ("pattern begin(\"a\").within(8).withinGap(5);", "ok 0 1"),
+        (
+            "event within(withinGap int);pattern begin(\"within\").of(within).where(withinGap<within).withinGap(5);",
+            "ok 1 1",
+        ),
         ("pattern begin(\"a\"); skip none;", "ok 0 1"),
         ("pattern begin(\"a\"); skip to_next;", "ok 0 1"),
         ("pattern begin(\"a\"); skip past_last;", "ok 0 1"),
@@ -109,9 +115,27 @@ fn the_first_fault_is_told(rt: HostRuntime) -> Result<(), Fail> {
         ("pattern begin(\"a\").where();", "code 4 at 25"),
         (
             "pattern begin(\"a\").within(1).next(\"b\");",
-            "code 4 at 28",
+            "code 4 at 29",
         ),
-        ("pattern begin(\"a\").within(1).within(2);", "code 4 at 28"),
+        ("pattern begin(\"a\").within(1).within(2);", "code 4 at 29"),
+        (
+            "pattern begin(\"a\").withinGap(1).next(\"b\");",
+            "code 4 at 31",
+        ),
+        (
+            "pattern begin(\"a\").withinGap(5).within(8);",
+            "code 4 at 31",
+        ),
+        (
+            "pattern begin(\"a\").withinGap(5).withinGap(8);",
+            "code 4 at 31",
+        ),
+        (
+            "pattern begin(\"a\").within(5).withinGap(8).within(9);",
+            "code 4 at 41",
+        ),
+        ("pattern begin(\"a\").withinGap();", "code 4 at 29"),
+        ("pattern begin(\"a\").withingap(1);", "code 4 at 19"),
         ("pattern begin(\"a\").oneOrMore(1);", "code 4 at 29"),
         ("pattern begin(\"a\").skip none;", "code 4 at 19"),
         ("pattern begin(\"a\"); skip first;", "code 4 at 25"),
@@ -138,7 +162,11 @@ fn the_first_fault_is_told(rt: HostRuntime) -> Result<(), Fail> {
         ("greedy", "code 4 at 0"),
         ("pattern begin(\"a\") greedy", "code 4 at 19"),
         ("pattern begin(\"a\").of(A) greedy();", "code 4 at 25"),
-        ("pattern begin(\"a\").within(1).greedy();", "code 4 at 28"),
+        ("pattern begin(\"a\").within(1).greedy();", "code 4 at 29"),
+        (
+            "pattern begin(\"a\").withinGap(1).greedy();",
+            "code 4 at 31",
+        ),
         ("pattern begin(\"a\"); greedy", "code 4 at 20"),
         ("pattern greedy", "code 4 at 8"),
         ("pattern begin(greedy", "code 4 at 14"),
@@ -246,9 +274,9 @@ fn files_have_at_most_65536_bytes(rt: HostRuntime) -> Result<(), Fail> {
 fn each_front_is_refused(rt: HostRuntime) -> Result<(), Fail> {
     let alloc = rt.alloc();
     let text =
-        "event A(v int, t text);pattern begin(\"a\").of(A).where(t<\"x\\\\\").next(\"b\").times(1,2).within(9);skip to_last(\"a\");select sum(\"a\".v)+1,t;";
+        "event A(v int, t text);pattern begin(\"a\").of(A).where(t<\"x\\\\\").next(\"b\").times(1,2).within(9).withinGap(3);skip to_last(\"a\");select sum(\"a\".v)+1,t;";
     let bytes = text.as_bytes();
-    let ends = [94, 112];
+    let ends = [107, 125];
     for len in 0..bytes.len() {
         let found = answer(alloc, &bytes[..len])?;
         let is_file = ends.iter().any(|end| *end == len);

@@ -9,6 +9,8 @@ mod failing;
 #[cfg(test)]
 mod gauges;
 #[cfg(test)]
+mod limited;
+#[cfg(test)]
 mod loads;
 #[cfg(test)]
 mod options;

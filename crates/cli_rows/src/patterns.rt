@@ -6,11 +6,11 @@ use cep_event::{ByteList, CallList, NoMemory};
 use cep_outside::{MemorySink, MemorySource};
 use std::test::Fail;
 
-struct Row {
-    name: &'static str,
-    file: &'static [u8],
-    input: &'static [u8],
-    output: &'static [u8],
+pub struct Row {
+    pub name: &'static str,
+    pub file: &'static [u8],
+    pub input: &'static [u8],
+    pub output: &'static [u8],
 }
 
 const ROWS: [Row; 34] = [
@@ -220,7 +220,7 @@ const ROWS: [Row; 34] = [
     },
 ];
 
-fn is_met(rt: &HostRuntime, row: &Row, piece: usize) -> Result<bool, NoMemory>
+pub fn is_met(rt: &HostRuntime, row: &Row, piece: usize) -> Result<bool, NoMemory>
     requires { 0 < piece }
 {
     let alloc = rt.alloc();

@@ -1,4 +1,4 @@
-//! Conditions with whether they hold, asked of the list of taken events and of kept sums.
+//! Conditions with whether they hold, asked of the list of taken events and of kept sums, each as it stands and made ready for the event.
 ghost use Rattle.std.specs.Prelude.{IfOk};
 ghost use Rattle.cond_sums.specs.Questions.{IsWantedBy};
 ghost use Rattle.cond_sums.specs.Kept.{wanted_in};
@@ -6,6 +6,7 @@ ghost use Rattle.cond_sums.specs.Kept.{wanted_in};
 use cep_event::{Event, NoMemory, Text, Value, ValueList};
 use cep_plan::{Plan, Taken, TakenList};
 use cond_eval::{ListMatched, holds};
+use cond_ready::at_event;
 use cond_sums::{Asked, Sums, is_met};
 use pattern_file::plan_in;
 use std::alloc::Global;
@@ -14,24 +15,24 @@ use std::test::Fail;
 
 /// A trade of a price and a symbol, or an order of a size, a symbol and a price.
 #[derive(Clone, Copy)]
-enum Row {
+pub enum Row {
     Trade(i64, &'static str),
     Order(i64, &'static str, i64),
 }
 
 /// What the third stage asks, the events that are taken, each with its stage, and the event that is asked about.
-struct Case {
-    condition: &'static str,
-    taken: &'static [(u16, Row)],
-    event: Row,
-    holds: bool,
+pub struct Case {
+    pub condition: &'static str,
+    pub taken: &'static [(u16, Row)],
+    pub event: Row,
+    pub holds: bool,
 }
 
 const BEGIN: &str =
     "event Trade(price int, symbol text); event Order(size int, symbol text, price int);
 pattern begin(\"a\").oneOrMore().followedBy(\"b\").oneOrMore().followedBy(\"c\")";
 
-const TRADE: Row = Row::Trade(6, "IBM");
+pub const TRADE: Row = Row::Trade(6, "IBM");
 
 // Sums are tested at each step.
 const SUMS: [Case; 11] = [
@@ -602,7 +603,7 @@ fn values(alloc: Global, row: Row) -> Result<ValueList, NoMemory> {
     Ok(values)
 }
 
-fn event(alloc: Global, row: Row) -> Result<Event, NoMemory> {
+pub fn event(alloc: Global, row: Row) -> Result<Event, NoMemory> {
     let type_no = match row {
         Row::Trade(_, _) => 0,
         Row::Order(_, _, _) => 1,
@@ -657,6 +658,15 @@ fn holds_of_list<R: Abort>(rt: &R, plan: &Plan, event: &Event, list: &TakenList)
     }
 }
 
+fn ready_of_list<R: Abort>(rt: &R, plan: &Plan, event: &Event, list: &TakenList) -> bool {
+    assert!(rt; list.len() < 100);
+    let taken = ListMatched::new(plan, list);
+    match plan.stages.get(2) {
+        None => false,
+        Some(stage) => at_event(plan, &stage.cond, event).holds_with(&taken),
+    }
+}
+
 fn holds_of_sums(plan: &Plan, event: &Event, sums: &Sums) -> bool
     requires { IsWantedBy plan.now (wanted_in sums.now) }
 {
@@ -666,7 +676,16 @@ fn holds_of_sums(plan: &Plan, event: &Event, sums: &Sums) -> bool
     }
 }
 
-fn pattern(alloc: Global, condition: &str) -> Result<Vec<u8>, NoMemory> {
+fn ready_of_sums(plan: &Plan, event: &Event, sums: &Sums) -> bool
+    requires { IsWantedBy plan.now (wanted_in sums.now) }
+{
+    match plan.stages.get(2) {
+        None => false,
+        Some(stage) => at_event(plan, &stage.cond, event).holds_with(sums),
+    }
+}
+
+pub fn pattern(alloc: Global, condition: &str) -> Result<Vec<u8>, NoMemory> {
     let mut text = Vec::new(alloc);
     text.extend_from_slice(BEGIN.as_bytes())?;
     text.extend_from_slice(condition.as_bytes())?;
@@ -674,8 +693,8 @@ fn pattern(alloc: Global, condition: &str) -> Result<Vec<u8>, NoMemory> {
     Ok(text)
 }
 
-// Whether the list and the sums both answer as the case says.
-fn is_right<R: Abort>(rt: &R, alloc: Global, case: &Case) -> Result<bool, Fail> {
+/// Whether the list and the sums answer as the case says, both to the condition and to what was made ready of it.
+pub fn is_right<R: Abort>(rt: &R, alloc: Global, case: &Case) -> Result<bool, Fail> {
     let text = pattern(alloc, case.condition)?;
     let plan = plan_in(alloc, &text)?;
     let event = event(alloc, case.event)?;
@@ -683,7 +702,14 @@ fn is_right<R: Abort>(rt: &R, alloc: Global, case: &Case) -> Result<bool, Fail> 
     let sums = summed(rt, alloc, &plan, case.taken)?;
     let by_list = holds_of_list(rt, &plan, &event, &list);
     let by_sums = holds_of_sums(&plan, &event, &sums);
-    Ok(by_list == case.holds && by_sums == case.holds)
+    let ready_by_list = ready_of_list(rt, &plan, &event, &list);
+    let ready_by_sums = ready_of_sums(&plan, &event, &sums);
+    Ok(
+        by_list == case.holds
+            && by_sums == case.holds
+            && ready_by_list == case.holds
+            && ready_by_sums == case.holds,
+    )
 }
 
 fn are_right<R: Abort>(rt: &R, alloc: Global, cases: &[Case]) -> Result<(), Fail> {

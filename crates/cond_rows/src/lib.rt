@@ -6,3 +6,5 @@
 mod conditions;
 #[cfg(test)]
 mod lists;
+#[cfg(test)]
+mod ready;

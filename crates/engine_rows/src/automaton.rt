@@ -82,6 +82,8 @@ fn plan_of(alloc: Global, stages: StageList, negations: NegationList) -> Plan {
         stages,
         negations,
         within: None,
+        within_gap: None,
+        by: None,
         skip: Skip::No,
         select: None,
     }
@@ -206,6 +208,35 @@ fn negations_are_explained(rt: HostRuntime) -> Result<(), Fail> {
         next_only,
     });
     assert!(rt; is_explained(&rt, rt.alloc(), &stages, &negations, NEGATED)?);
+    Ok(())
+}
+
+/// A loop that may be followed by the end, where none of the negations behind it stands.
+const CLOSING: &str = "states 3
+start
+  proceed take a#1 ignore all
+state 1 a#1
+  proceed take b#1 ignore other
+state 2 b#1
+  proceed take b#2+ ignore other chain
+state 3 b#2+
+  proceed take b#2+ ignore other chain
+  proceed close notnext x not y
+";
+
+#[test]
+fn the_end_is_explained(rt: HostRuntime) -> Result<(), Fail> {
+    let looped = StageRow {
+        min: 2,
+        max: None,
+        ..one(Contiguity::Relaxed)
+    };
+    let stages = [one(Contiguity::Any), looped];
+    let negations = [(1, true), (1, false)].map(|(after, next_only)| NegationRow {
+        after,
+        next_only,
+    });
+    assert!(rt; is_explained(&rt, rt.alloc(), &stages, &negations, CLOSING)?);
     Ok(())
 }
 

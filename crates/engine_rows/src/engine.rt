@@ -107,3 +107,34 @@ fn items_are_handed_out_once(rt: HostRuntime) -> Result<(), Fail> {
     assert_eq!(rt; engine.count(), 3);
     Ok(())
 }
+
+const LONG: &str =
+    "event A(); event B(); pattern begin(\"a\").of(A).followedBy(\"b\").of(B).oneOrMore();";
+
+/// A loop of a thousand events is held once, although each of them ends a match.
+#[test]
+fn a_long_loop_is_held_once(rt: HostRuntime) -> Result<(), Fail> {
+    let alloc = rt.alloc();
+    let mut engine = engine(&rt, alloc, LONG)?;
+    let mut told = 0usize;
+    for row in 0..1001u32 {
+        let event = Event {
+            row,
+            ts: i64::from(row),
+            type_no: if row == 0 { 0 } else { 1 },
+            values: ValueList::new(alloc),
+        };
+        assert!(rt; engine.count() < u32::MAX);
+        assert!(rt; engine.may_come(event.ts));
+        engine.event(event)?;
+        told = told.saturating_add(engine.items().len());
+    }
+    let held = Held {
+        events: 1001,
+        nodes: 1001,
+        edges: 1001,
+    };
+    assert_eq!(rt; engine.held(), held);
+    assert_eq!(rt; told, 1000);
+    Ok(())
+}

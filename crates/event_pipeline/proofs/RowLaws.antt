@@ -28,17 +28,20 @@ no_events (Some lag) earlier time =
 abbrev Below : ℕ → List Event → Type 0
 Below row events = Each (λ (e : Event). e.row < row) events
 
-rows_below : (row : ℕ) (lag : Option ℕ) (earlier : List ℤ) (records : List LineRecord) → Each (HasRowBelow row) records → Below row (events_among (arrivals_after lag earlier records))
+rows_below : (row : ℕ) (lag : Option ℕ) (earlier : List ℤ) (records : List LineRecord) → Each (HasRowBelow row) records
+    → Below row (events_among (arrivals_after lag earlier records))
 rows_below row lag earlier [] h = tt
 rows_below row lag earlier (Blank ∷ records) h = rows_below row lag earlier records h.1
 rows_below row lag earlier (Mark time ∷ records) h = rows_below row lag earlier records h.1
 rows_below row lag earlier (Row event ∷ records) h =
     let behind = marks_behind lag earlier event.ts in
     let rest = arrivals_after lag (event.ts ∷ earlier) records in
-    let all : events_among (behind ++ rest) ≡ events_among rest = events-append behind rest ∙ ap (λ l. l ++ events_among rest) (no_events lag earlier event.ts) in
+    let all : events_among (behind ++ rest) ≡ events_among rest = events-append behind rest
+    ∙ ap (λ l. l ++ events_among rest) (no_events lag earlier event.ts) in
     (h.0, subst (Below row) (sym all) (rows_below row lag (event.ts ∷ earlier) records h.1))
 
-waiting_below : (row : ℕ) (lag : Option ℕ) (records : List LineRecord) → Each (HasRowBelow row) records → Below row (order_of lag (arrivals_of lag records)).waiting
+waiting_below : (row : ℕ) (lag : Option ℕ) (records : List LineRecord) → Each (HasRowBelow row) records
+    → Below row (order_of lag (arrivals_of lag records)).waiting
 unfolding order_of
 waiting_below row lag records h =
     let arrivals = arrivals_of lag records in

@@ -66,7 +66,8 @@ passing p (x ∷ xs) = chosen (p x) refl (passing p xs) where
   chosen false is k = k
 
 -- the first event was taken, and the rest can be
-pub takes-next : (event : Event) (waiting rest : List Event) (a b : State) → waiting ≡ event ∷ rest → CanTake waiting a → IsReady b → b.last ≡ Some event.ts → CanTake rest b
+pub takes-next : (event : Event) (waiting rest : List Event) (a b : State) → waiting ≡ event ∷ rest → CanTake waiting a → IsReady b → b.last ≡ Some event.ts
+    → CanTake rest b
 takes-next event waiting rest a b is h ready last =
     let all = subst (λ l. CanTake l a) is h in
     record {
@@ -82,47 +83,57 @@ pub later-next : (event : Event) (waiting rest : List Event) (a : State) → wai
 later-next event waiting rest a is h = let all = subst (λ l. CanTake l a) is h in all.later.0
 
 -- and not above the mark that released it
-pub reached-next : (order : OrderState) (event : Event) (rest : List Event) (time : ℤ) → ready order ≡ event ∷ rest → order.mark ≡ Some (At time) → int_le event.ts time ≡ true
+pub reached-next : (order : OrderState) (event : Event) (rest : List Event) (time : ℤ) → ready order ≡ event ∷ rest → order.mark ≡ Some (At time)
+    → int_le event.ts time ≡ true
 reached-next order event rest time is mark =
     let all = subst (Each (λ (e : Event). is_reached order.mark e.ts ≡ true)) is (passing (λ (e : Event). is_reached order.mark e.ts) order.waiting) in
     ap (λ m. is_reached m event.ts) (sym mark) ∙ all.0
 
 -- ---- between two records
 
-pub running-begun : (lag : Option ℕ) (order : OrderState) (engine : State) → order ≡ order_of lag [] → engine.last ≡ None → IsReady engine → IsRunning order engine
+pub running-begun : (lag : Option ℕ) (order : OrderState) (engine : State) → order ≡ order_of lag [] → engine.last ≡ None → IsReady engine
+    → IsRunning order engine
 unfolding order_of
-running-begun lag order engine is last ready = subst (λ o. IsRunning o engine) (sym is) (record { takes = record { ready = ready; upward = tt; later = tt }; marked = ap (option_map At) last })
+running-begun lag order engine is last ready = subst (λ o. IsRunning o engine) (sym is)
+    (record { takes = record { ready = ready; upward = tt; later = tt }; marked = ap (option_map At) last })
 
-pub nothing-taken : (lag : Option ℕ) (order : OrderState) (engine : State) → order ≡ order_of lag [] → engine.runs.position ≡ 0 → taken_and_waiting order.waiting engine ≤ 0
+pub nothing-taken : (lag : Option ℕ) (order : OrderState) (engine : State) → order ≡ order_of lag [] → engine.runs.position ≡ 0
+    → taken_and_waiting order.waiting engine ≤ 0
 nothing-taken lag order engine is none =
     let waiting : length order.waiting ≡ 0 = ap length (ap (λ (o : OrderState). o.waiting) is ∙ nothing_waits lag) in omega (arith, none, waiting)
 
 -- an event that comes waits, where the mark hasn't reached it
-pub running-arrived : (order next : OrderState) (engine : State) (event : Event) → next ≡ with_event order event → IsRunning order engine → IsRunning next engine
-running-arrived order next engine event is h = subst (λ o. IsRunning o engine) (sym is) (record { takes = chosen (is_reached order.mark event.ts) refl; marked = h.marked }) where
-  chosen : (b : Bool) → is_reached order.mark event.ts ≡ b → CanTake (if b then order.waiting else put_in_order event order.waiting) engine
-  chosen true is = h.takes
-  chosen false is = record {
-    ready = h.takes.ready;
-    upward = put-upward event order.waiting h.takes.upward;
-    later = put-each (λ (e : Event). IsNotBefore engine.last e.ts) event order.waiting (later-unreached engine.last order.mark event.ts h.marked is) h.takes.later;
-  }
+pub running-arrived : (order next : OrderState) (engine : State) (event : Event) → next ≡ with_event order event → IsRunning order engine
+    → IsRunning next engine
+running-arrived order next engine event is h = subst (λ o. IsRunning o engine) (sym is)
+    (record { takes = chosen (is_reached order.mark event.ts) refl; marked = h.marked }) where
+      chosen : (b : Bool) → is_reached order.mark event.ts ≡ b → CanTake (if b then order.waiting else put_in_order event order.waiting) engine
+      chosen true is = h.takes
+      chosen false is = record {
+        ready = h.takes.ready;
+        upward = put-upward event order.waiting h.takes.upward;
+        later = put-each (λ (e : Event). IsNotBefore engine.last e.ts) event order.waiting
+            (later-unreached engine.last order.mark event.ts h.marked is) h.takes.later;
+      }
 
 length-put : (event : Event) (events : List Event) → length (put_in_order event events) ≡ length events + 1
 length-put event [] = omega arith
 length-put event (first ∷ later) = chosen (is_sooner first event) (length-put event later) where
-  chosen : (b : Bool) → length (put_in_order event later) ≡ length later + 1 → length (if b then first ∷ put_in_order event later else event ∷ first ∷ later) ≡ length (first ∷ later) + 1
+  chosen : (b : Bool) → length (put_in_order event later) ≡ length later + 1
+      → length (if b then first ∷ put_in_order event later else event ∷ first ∷ later) ≡ length (first ∷ later) + 1
   chosen true h = omega (arith, h)
   chosen false h = omega arith
 
 pub one-more-waits : (order next : OrderState) (event : Event) → next ≡ with_event order event → length next.waiting ≤ length order.waiting + 1
-one-more-waits order next event is = subst (λ (o : OrderState). length o.waiting ≤ length order.waiting + 1) (sym is) (chosen (is_reached order.mark event.ts)) where
-  chosen : (b : Bool) → length (if b then order.waiting else put_in_order event order.waiting) ≤ length order.waiting + 1
-  chosen true = omega arith
-  chosen false = omega (arith, length-put event order.waiting)
+one-more-waits order next event is = subst (λ (o : OrderState). length o.waiting ≤ length order.waiting + 1) (sym is)
+    (chosen (is_reached order.mark event.ts)) where
+      chosen : (b : Bool) → length (if b then order.waiting else put_in_order event order.waiting) ≤ length order.waiting + 1
+      chosen true = omega arith
+      chosen false = omega (arith, length-put event order.waiting)
 
 -- the mark's own tick was taken behind the events that it released
-pub running-marked : (time : ℤ) (order next : OrderState) (a b : State) → order.mark ≡ Some (At time) → next ≡ settled order → CanTake next.waiting a → IsReady b → b.last ≡ Some time → IsRunning next b
+pub running-marked : (time : ℤ) (order next : OrderState) (a b : State) → order.mark ≡ Some (At time) → next ≡ settled order → CanTake next.waiting a
+    → IsReady b → b.last ≡ Some time → IsRunning next b
 running-marked time order next a b mark rest h ready last = record {
   takes = record {
     ready = ready;

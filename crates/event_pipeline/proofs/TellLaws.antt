@@ -13,20 +13,23 @@ use Rattle.event_pipeline.specs.Told.{Told, late_told, item_told}
 use Rattle.event_pipeline.specs.Ticks.{told_late}
 use Rattle.event_pipeline.specs.Telling.{IsTold, AreTold, StopsBefore, StopsAmong, Tells}
 
-pub told-then : {S : Type 0} (tells : S → S → Told → Type 0) (a m b : S) (xs ys : List Told) → AreTold tells a m xs → AreTold tells m b ys → AreTold tells a b (xs ++ ys)
+pub told-then : {S : Type 0} (tells : S → S → Told → Type 0) (a m b : S) (xs ys : List Told) → AreTold tells a m xs → AreTold tells m b ys
+    → AreTold tells a b (xs ++ ys)
 told-then tells a m b [] ys is more = subst (λ s. AreTold tells s b ys) is more
 told-then tells a m b (x ∷ xs) ys (now, first, rest) more = (now, first, told-then tells now m b xs ys rest more)
 
 pub told-one : {S : Type 0} (tells : S → S → Told → Type 0) (a b : S) (one : Told) → tells a b one → AreTold tells a b (one ∷ [])
 told-one tells a b one told = (b, told, refl)
 
-before-more : {S : Type 0} (stops : TellFault → S → S → Told → Type 0) (fault : TellFault) (a b : S) (back ys : List Told) → StopsBefore stops fault a b back → StopsBefore stops fault a b (back ++ ys)
+before-more : {S : Type 0} (stops : TellFault → S → S → Told → Type 0) (fault : TellFault) (a b : S) (back ys : List Told)
+    → StopsBefore stops fault a b back → StopsBefore stops fault a b (back ++ ys)
 before-more stops fault a b back ys (inl short) = inl short
 before-more stops fault a b back ys (inr (next, rest, is, stopped)) = inr (next, rest ++ ys, ap (λ l. l ++ ys) is, stopped)
 
 module _ {S : Type 0} (tells : S → S → Told → Type 0) (stops : TellFault → S → S → Told → Type 0) where
   -- it stops among later ones
-  pub cut-later : (fault : TellFault) (a m b : S) (xs ys : List Told) → AreTold tells a m xs → StopsAmong tells stops fault m b ys → StopsAmong tells stops fault a b (xs ++ ys)
+  pub cut-later : (fault : TellFault) (a m b : S) (xs ys : List Told) → AreTold tells a m xs → StopsAmong tells stops fault m b ys
+      → StopsAmong tells stops fault a b (xs ++ ys)
   cut-later fault a m b xs ys told s =
       record {
         front = xs ++ s.front;
@@ -54,12 +57,14 @@ module _ {S : Type 0} (tells : S → S → Told → Type 0) (stops : TellFault �
   cut-first a all = record { front = []; back = all; is = refl; at = a; told = refl; stopped = inl (refl, refl) }
 
   -- it stops at one of them
-  pub cut-at : (fault : TellFault) (a m b : S) (xs rest : List Told) (next : Told) → AreTold tells a m xs → stops fault m b next → StopsAmong tells stops fault a b (xs ++ next ∷ rest)
+  pub cut-at : (fault : TellFault) (a m b : S) (xs rest : List Told) (next : Told) → AreTold tells a m xs → stops fault m b next
+      → StopsAmong tells stops fault a b (xs ++ next ∷ rest)
   cut-at fault a m b xs rest next told stopped =
       record { front = xs; back = next ∷ rest; is = refl; at = m; told = told; stopped = inr (next, rest, refl, stopped) }
 
   -- they were told some, and then more or not all of them
-  pub tells-then : (a m b : S) (xs ys : List Told) (r : Result Unit TellFault) → AreTold tells a m xs → Tells tells stops m b ys r → Tells tells stops a b (xs ++ ys) r
+  pub tells-then : (a m b : S) (xs ys : List Told) (r : Result Unit TellFault) → AreTold tells a m xs → Tells tells stops m b ys r
+      → Tells tells stops a b (xs ++ ys) r
   tells-then a m b xs ys (Ok done) told more = told-then tells a m b xs ys told more
   tells-then a m b xs ys (Err fault) told more = cut-later fault a m b xs ys told more
 
@@ -78,7 +83,8 @@ pub items-append : (xs ys : List Item) → map item_told (xs ++ ys) ≡ map item
 items-append [] ys = refl
 items-append (x ∷ xs) ys = ap (λ l. item_told x ∷ l) (items-append xs ys)
 
-module _ {S : Type 0} (tells : S → S → Told → Type 0) (a m b : S) (items : List Item) (i : ℕ) (x : Item) (within : i < length items) (is : x ≡ get_or items i x) (so_far : AreTold tells a m (map item_told (take i items))) where
+module _ {S : Type 0} (tells : S → S → Told → Type 0) (a m b : S) (items : List Item) (i : ℕ) (x : Item) (within : i < length items)
+    (is : x ≡ get_or items i x) (so_far : AreTold tells a m (map item_told (take i items))) where
   -- one item more was told
   pub items-told : tells m b (item_told x) → AreTold tells a b (map item_told (take (i + 1) items))
   items-told told =
@@ -87,7 +93,8 @@ module _ {S : Type 0} (tells : S → S → Told → Type 0) (a m b : S) (items :
       (told-then tells a m b (map item_told (take i items)) (item_told x ∷ []) so_far (told-one tells m b (item_told x) told)))
 
   -- it stopped at the next item
-  pub items-cut : (stops : TellFault → S → S → Told → Type 0) (fault : TellFault) → stops fault m b (item_told x) → StopsAmong tells stops fault a b (map item_told items)
+  pub items-cut : (stops : TellFault → S → S → Told → Type 0) (fault : TellFault) → stops fault m b (item_told x)
+      → StopsAmong tells stops fault a b (map item_told items)
   items-cut stops fault stopped =
       let whole : items ≡ take i items ++ x ∷ drop (i + 1) items =
       sym (take-append-drop i items) ∙ ap (λ l. take i items ++ l) (drop_more items i x within ∙ ap (λ y. y ∷ drop (i + 1) items) (sym is)) in
@@ -97,7 +104,8 @@ module _ {S : Type 0} (tells : S → S → Told → Type 0) (a m b : S) (items :
 -- ---- a late event
 
 module _ {S : Type 0} (tells : S → S → Told → Type 0) (stops : TellFault → S → S → Told → Type 0) (arrivals : List Arrival) (event : Event) where
-  by_lateness : (late : Bool) (row : ℕ) (a b : S) (r : Result Unit TellFault) → Late row ≡ (if late then Late event.row else Kept) → IsTold tells stops a b (late_told row) r
+  by_lateness : (late : Bool) (row : ℕ) (a b : S) (r : Result Unit TellFault) → Late row ≡ (if late then Late event.row else Kept)
+      → IsTold tells stops a b (late_told row) r
       → Tells tells stops a b (map late_told (option_to_list (if late then Some event.row else None))) r
   by_lateness true row a b r is told = whole r (subst (λ n. IsTold tells stops a b (late_told n) r) (same is) told)
     where
@@ -110,13 +118,16 @@ module _ {S : Type 0} (tells : S → S → Told → Type 0) (stops : TellFault �
   by_lateness false row a b r is told = cc
 
   -- a late event is told
-  pub late-told : (row : ℕ) (a b : S) (r : Result Unit TellFault) → Late row ≡ (if is_late arrivals event then Late event.row else Kept) → IsTold tells stops a b (late_told row) r
+  pub late-told : (row : ℕ) (a b : S) (r : Result Unit TellFault) → Late row ≡ (if is_late arrivals event then Late event.row else Kept)
+      → IsTold tells stops a b (late_told row) r
       → Tells tells stops a b (told_late arrivals event) r
   late-told row a b r is told = by_lateness (is_late arrivals event) row a b r is told
 
 -- and no other
-pub not-late : {S : Type 0} (tells : S → S → Told → Type 0) (arrivals : List Arrival) (event : Event) (a : S) → Kept ≡ (if is_late arrivals event then Late event.row else Kept) → AreTold tells a a (told_late arrivals event)
+pub not-late : {S : Type 0} (tells : S → S → Told → Type 0) (arrivals : List Arrival) (event : Event) (a : S)
+    → Kept ≡ (if is_late arrivals event then Late event.row else Kept) → AreTold tells a a (told_late arrivals event)
 not-late tells arrivals event a is = by_lateness (is_late arrivals event) is where
-  by_lateness : (late : Bool) → Kept ≡ (if late then Late event.row else Kept) → AreTold tells a a (map late_told (option_to_list (if late then Some event.row else None)))
+  by_lateness : (late : Bool) → Kept ≡ (if late then Late event.row else Kept)
+      → AreTold tells a a (map late_told (option_to_list (if late then Some event.row else None)))
   by_lateness true is = cc
   by_lateness false is = refl

@@ -19,7 +19,8 @@ abbrev pub StopsBefore : {S : Type 0} → (TellFault → S → S → Told → Ty
 StopsBefore stops fault a b back = ((fault ≡ NoMemory) × (b ≡ a)) ⊎ ((next : Told) × (rest : List Told) × (back ≡ next ∷ rest) × stops fault a b next)
 
 -- They were told a front of these, and then they stopped for the fault.
-pub record StopsAmong {S : Type 0} (tells : S → S → Told → Type 0) (stops : TellFault → S → S → Told → Type 0) (fault : TellFault) (a b : S) (all : List Told) : Type 0 where
+pub record StopsAmong {S : Type 0} (tells : S → S → Told → Type 0) (stops : TellFault → S → S → Told → Type 0) (fault : TellFault) (a b : S)
+    (all : List Told) : Type 0 where
   pub front : List Told
   pub back : List Told
   pub is : all ≡ front ++ back

@@ -7,7 +7,7 @@ use Rattle.cep_plan.specs.declared.item.Item.{Item}
 use Rattle.cep_plan.specs.declared.plan.Plan.{Plan}
 use Rattle.cep_plan.specs.EventTime.{Arrival, is_late, ticks_after, arrivals_of, ticks_of}
 use Rattle.cep_plan.specs.Tick.{Tick}
-use Rattle.cep_engine.specs.Standing.{kept_at}
+use Rattle.cep_plan.specs.Keys.{kept_at}
 use Rattle.cep_engine.specs.State.{State, StandsFor}
 use Rattle.watermark_order.specs.Order.{OrderState, order_of}
 use Rattle.event_pipeline.specs.declared.outputs.TellFault.{TellFault}
@@ -40,7 +40,8 @@ Takes tells stops plan before more now a b (Ok done) = HasTaken tells plan befor
 Takes tells stops plan before more now a b (Err fault) = StopsAmong tells stops fault a b (told_more plan before more)
 
 -- these arrivals came behind others: the order stands for them all, and the engine took their ticks
-pub record HasMet {S : Type 0} (tells : S → S → Told → Type 0) (plan : Plan) (lag : Option ℕ) (before more : List Arrival) (ticks : List Tick) (order : OrderState) (now : State) (a b : S) : Type 0 where
+pub record HasMet {S : Type 0} (tells : S → S → Told → Type 0) (plan : Plan) (lag : Option ℕ) (before more : List Arrival) (ticks : List Tick)
+    (order : OrderState) (now : State) (a b : S) : Type 0 where
   pub order_is : order ≡ order_of lag (before ++ more)
   pub taken : HasTaken tells plan ticks (ticks_after before more) now a b
 
@@ -51,7 +52,8 @@ Meets tells stops plan lag before more ticks order now a b (Ok done) = HasMet te
 Meets tells stops plan lag before more ticks order now a b (Err fault) = StopsAmong tells stops fault a b (told_more plan ticks (ticks_after before more))
 
 -- a record came behind others: the order and the engine stand for all, and what the record makes known was told
-pub record HasGone {S : Type 0} (tells : S → S → Told → Type 0) (plan : Plan) (lag : Option ℕ) (records : List LineRecord) (next : LineRecord) (order : OrderState) (now : State) (a b : S) : Type 0 where
+pub record HasGone {S : Type 0} (tells : S → S → Told → Type 0) (plan : Plan) (lag : Option ℕ) (records : List LineRecord) (next : LineRecord)
+    (order : OrderState) (now : State) (a b : S) : Type 0 where
   pub order_is : order ≡ order_of lag (arrivals_of lag (records ++ next ∷ []))
   pub stands : StandsFor (ticks_of lag (records ++ next ∷ [])) now
   pub told : AreTold tells a b (told_of lag plan records next)

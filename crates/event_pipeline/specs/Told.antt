@@ -1,4 +1,5 @@
--- What records make known, in the order in which it is told. Late events and items are those of the definitions of event time and of matches; that a record's late event comes before the items that it causes is this project's own.
+-- What records make known, in the order in which it is told. Late events and items are those of the definitions of event time and of matches; that a
+-- record's late event comes before the items that it causes is this project's own.
 use Rattle.std.specs.Prelude.{ℕ, List, [], ◌∷◌, ◌++◌, length, map, drop, if◌then◌else◌, Option, Some, None}
 use Rattle.std.specs.Option.{option_to_list}
 use Rattle.cep_event.specs.declared.record.LineRecord.{LineRecord}

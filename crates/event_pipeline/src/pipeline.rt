@@ -4,7 +4,7 @@ ghost use Rattle.cep_event.specs.declared.record.Moment.TheVariants.{End};
 ghost use Rattle.cep_plan.specs.declared.plan.Plan.{Plan};
 ghost use Rattle.cep_plan.specs.Tick.{Tick, mark_tick};
 ghost use Rattle.cep_engine.specs.State.{StandsFor, HasRoom};
-ghost use Rattle.cep_engine.specs.Standing.{kept_at};
+ghost use Rattle.cep_plan.specs.Keys.{kept_at};
 ghost use Rattle.nfa_compile.specs.State.{IsCompilable};
 ghost use Rattle.event_pipeline.specs.Handled.{HasHandled, Handles};
 ghost use Rattle.event_pipeline.specs.Running.{ComesBehind, IsReady};

@@ -9,7 +9,7 @@ ghost use Rattle.cep_plan.specs.declared.plan.Plan.{Plan};
 ghost use Rattle.cep_plan.specs.EventTime.{Arrival, arrived, marked, marks_behind, arrivals_of, ticks_of, ticks_after};
 ghost use Rattle.cep_plan.specs.Skipping.{list_in};
 ghost use Rattle.cep_plan.specs.Tick.{Tick, event_tick, mark_tick};
-ghost use Rattle.cep_engine.specs.Standing.{kept_at};
+ghost use Rattle.cep_plan.specs.Keys.{kept_at};
 ghost use Rattle.cep_engine.specs.State.{StandsFor, IsNotBefore};
 ghost use Rattle.watermark_order.specs.Order.{order_of, ready, settled, event_times, with_event};
 ghost use Rattle.event_pipeline.specs.Running.{IsReady, CanTake, ComesBehindWaiting, IsRunning, taken_and_waiting};

@@ -2,7 +2,7 @@
 pub mod PartLaws
 -- lists in another order have no element twice either; cited by RunLaws
 pub mod PermutationLaws
--- runs when starts go, when only starts among the events are compared, and in another order; cited by what kills and moves runs
+-- runs when lists are no longer open, when only positions among the events are compared, and in another order; cited by what kills and moves runs
 pub mod RunLaws
 -- the runs before the first event
 pub mod StartLaws
@@ -12,5 +12,5 @@ pub mod StepLaws
 pub mod MatchLaws
 -- the same of a sort of them: `matches_at-completed`
 pub mod SortLaws
--- the lists of the runs are the live lists, and those of one start that aren't full are `waiting_at`
+-- the lists of a due that runs wait with are `waiting_at`, and those that wait for the end are `closing_at`
 pub mod LiveRunLaws

@@ -9,7 +9,7 @@ use Rattle.cep_plan.specs.declared.plan.Plan.{Plan}
 use Rattle.cep_plan.specs.Entry.{Entry, last_entry, stages_of}
 use Rattle.cep_plan.specs.Order.{list_cmp}
 use Rattle.cep_plan.specs.Follow.{is_full}
-use Rattle.cep_plan.specs.Partial.{is_partial, is_match, is_live, waits}
+use Rattle.cep_plan.specs.Partial.{is_partial, is_complete, is_live, waits}
 use Rattle.cep_plan.specs.Rising.{rising_lists}
 use Rattle.cep_plan.specs.History.{ends_at, matches_at, lists_within}
 use Rattle.cep_plan.proofs.RisingLaws.{IsRising, IsRisingList}
@@ -50,7 +50,7 @@ pub matches_at-unique : (plan : Plan) (events : List Event) (event : Event) (pas
     → ((z : List Entry) → is_partial plan (events ++ event ∷ []) z ≡ true → IsGrown events z → is_full plan (stages_of z) ≡ true → passes z ≡ true
     → Contains xs z)
     → xs ≡ filter passes (matches_at plan events event)
-unfolding is_match
+unfolding is_complete
 matches_at-unique plan events event passes xs sorted sound complete =
     filtered_unique (λ list. passes list
     && (ends_at (length events) list && (is_partial plan (events ++ event ∷ []) list && is_full plan (stages_of list)))) (length plan.stages)
@@ -59,7 +59,8 @@ matches_at-unique plan events event passes xs sorted sound complete =
       subst (λ n. IsRisingList (length plan.stages) 0 n z) (length-append events (event ∷ [])) (is_partial-rising plan (events ++ event ∷ []) z known.0),
       and_from _ _ known.3 (and_from _ _ (ends_at-grown events z known.1) (and_from _ _ known.0 known.2)),
     ))
-    (λ z rising h. let passed = and_parts (passes z) (ends_at (length events) z && (is_partial plan (events ++ event ∷ []) z && is_full plan (stages_of z))) h in
+    (λ z rising h. let passed = and_parts (passes z) (ends_at (length events) z
+    && (is_partial plan (events ++ event ∷ []) z && is_full plan (stages_of z))) h in
     let both = and_parts (ends_at (length events) z) (is_partial plan (events ++ event ∷ []) z && is_full plan (stages_of z)) passed.1 in
     let match = and_parts (is_partial plan (events ++ event ∷ []) z) (is_full plan (stages_of z)) both.1 in
     complete z match.0 (grown_from_end plan events event z match.0 both.0) match.1 passed.0)

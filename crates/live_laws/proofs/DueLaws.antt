@@ -1,45 +1,19 @@
--- The timeouts of a tick, start by start: for each due start, in order, the lists that wait from there.
-use Rattle.std.proofs.Common.{◌≡◌, refl, sym, ◌∙◌, ap, ℕ, zero, suc, ◌+◌, ◌≤◌, arith, Bool, true, false, not, ◌&&◌, ◌==◌, cond, List, [], ◌∷◌, ◌++◌, length}
-use Rattle.std.specs.Prelude.{filter, flat_map, Option}
+-- Lists start by start, and which lists are due: those with a due start, and those with a due last event.
+use Rattle.std.proofs.Common.{◌≡◌, refl, sym, ◌∙◌, ap, ℕ, zero, suc, ◌+◌, ◌≤◌, arith, Bool, true, false, not, ◌&&◌, ◌==◌, cond, List, [], ◌∷◌, ◌++◌}
+use Rattle.std.specs.Prelude.{filter, flat_map, ℤ, ◌||◌, Option, Some, None}
 use Rattle.std.specs.List.{range_with_len, AllByRecursion as Each}
 use Rattle.std.proofs.lemmas.Bool.{eq-eqb, ne_eqb}
 use Rattle.std.proofs.lemmas.List.{append-nil}
 use Rattle.std.proofs.lemmas.List.Elements.{filter-append}
-use Rattle.cep_event.specs.declared.event.Event.{Event}
 use Rattle.cep_event.specs.declared.record.Moment.{Moment}
-use Rattle.cep_plan.specs.declared.plan.Plan.{Plan}
-use Rattle.cep_plan.specs.Entry.{Entry, event_at, taken_of, stages_of, stages_in}
-use Rattle.cep_plan.specs.Limit.{limit_from, limit_of, is_due}
-use Rattle.cep_plan.specs.Follow.{is_full}
-use Rattle.cep_plan.specs.Partial.{is_live}
+use Rattle.cep_plan.specs.Entry.{Entry}
+use Rattle.cep_plan.specs.Limit.{lesser_limit, is_limit_reached, is_due, is_time_left}
 use Rattle.cep_plan.specs.Rising.{begun_with, rising_lists}
-use Rattle.cep_plan.specs.History.{lists_within, timeouts_at}
-use Rattle.cep_plan.proofs.RisingLaws.{Each-append, Each-map, Each-weaker, StartsFrom, rising_lists-start, IsRisingList, rising_lists-rising}
-use Rattle.live_laws.specs.Starts.{begins_in, waits_from, waiting_at, due_starts}
-use Rattle.live_laws.proofs.BoolLaws.{and-assoc}
-use Rattle.live_laws.proofs.LastLaws.{stages_in-taken_of}
-use Rattle.live_laws.proofs.MemberLaws.{filter-same, filter-filter, Each-filter}
-
--- the timeouts of a tick, from some starts
-timeouts_at-live : (plan : Plan) (events : List Event) (before : Option Moment) (now : Moment) (starts : ℕ → Bool)
-    → filter (begins_in starts) (timeouts_at plan events before now)
-    ≡ filter (λ list. ((is_due (limit_of plan (taken_of events list)) before now && not (is_full plan (stages_of list))) && begins_in starts list)
-    && is_live plan events list) (lists_within plan (length events))
-timeouts_at-live plan events before now starts =
-    filter-filter (begins_in starts) (λ list. is_due (limit_of plan (taken_of events list)) before now && is_live plan events list
-    && not (is_full plan (stages_of list))) (lists_within plan (length events))
-    ∙ ap (λ t. filter t (lists_within plan (length events)))
-    (λ i list. turned (begins_in starts list) (is_due (limit_of plan (taken_of events list)) before now) (is_live plan events list)
-    (not (is_full plan (stages_of list))) i) where
-      turned : (b d l f : Bool) → (b && (d && l && f)) ≡ (((d && f) && b) && l)
-      turned false false l f = refl
-      turned false true l false = refl
-      turned false true l true = refl
-      turned true false l f = refl
-      turned true true false false = refl
-      turned true true false true = refl
-      turned true true true false = refl
-      turned true true true true = refl
+use Rattle.cep_plan.proofs.RisingLaws.{Each-append, Each-map, Each-weaker, StartsFrom, rising_lists-start}
+use Rattle.live_laws.specs.Starts.{begins_in}
+use Rattle.live_laws.proofs.LesserLaws.{below_lesser}
+use Rattle.cep_event.specs.declared.record.Moment.TheVariants.{At, End}
+use Rattle.live_laws.proofs.MemberLaws.{filter-same, Each-filter}
 
 filter_none : {X : Type 0} (p : X → Bool) (xs : List X) → Each (λ x. p x ≡ false) xs → filter p xs ≡ []
 filter_none p [] h = refl
@@ -137,57 +111,39 @@ module _ (rest : List Entry → Bool) where
       (Each-filter (λ s. from + 1 ≤ s) starts (range_with_len (from + 1) count) (range-from (from + 1) count))
       (by_starts starts stages (from + 1) count)
 
--- what is asked of a timeout, besides its start
-abbrev unfinished : Plan → List Event → List Entry → Bool
-unfinished plan events list = not (is_full plan (stages_of list)) && is_live plan events list
+-- ---- which lists are due
 
-nonempty : (P : List Entry → Type 0) (stages from to : ℕ) → ((first : Entry) (later : List Entry) → P (first ∷ later)) → (xs : List (List Entry))
-    → Each (IsRisingList stages from to) xs → Each P xs
-nonempty P stages from to h [] r = tt
-nonempty P stages from to h ([] ∷ xs) r = absurd r.0
-nonempty P stages from to h ((e ∷ l) ∷ xs) r = (h e l, nonempty P stages from to h xs r.1)
+or_not : (a b : Bool) → not (not a && not b) ≡ (a || b)
+or_not true b = refl
+or_not false true = refl
+or_not false false = refl
 
-and-moved : (d f s l : Bool) → (((d && f) && s) && l) ≡ ((d && s) && (f && l))
-and-moved false f s l = refl
-and-moved true false false l = refl
-and-moved true false true l = refl
-and-moved true true false l = refl
-and-moved true true true l = refl
+not_not : (a : Bool) → not (not a) ≡ a
+not_not true = refl
+not_not false = refl
 
-module _ (plan : Plan) (events : List Event) where
-  waiting_at-start : (start : ℕ)
-      → filter (λ list. begins_in (λ p. p == start) list && unfinished plan events list) (lists_within plan (length events))
-      ≡ waiting_at plan events start
-  unfolding waiting_at
-  waiting_at-start start =
-      filter-same (λ list. begins_in (λ p. p == start) list && unfinished plan events list)
-      (λ list. waits_from plan start (taken_of events list) && is_live plan events list) (lists_within plan (length events))
-      (nonempty (λ list. (begins_in (λ p. p == start) list && unfinished plan events list)
-      ≡ (waits_from plan start (taken_of events list) && is_live plan events list)) (length plan.stages) 0 (length events) agree
-      (lists_within plan (length events)) (rising_lists-rising (length plan.stages) 0 (length events) (length events) (omega arith))) where
-        agree : (first : Entry) (later : List Entry)
-            → ((first.position == start) && (not (is_full plan (stages_of (first ∷ later))) && is_live plan events (first ∷ later)))
-            ≡ (((first.position == start) && not (is_full plan (stages_in (taken_of events (first ∷ later))))) && is_live plan events (first ∷ later))
-        agree first later =
-            sym (and-assoc (first.position == start) (not (is_full plan (stages_of (first ∷ later)))) (is_live plan events (first ∷ later)))
-            ∙ (λ i. ((first.position == start) && not (is_full plan (sym (stages_in-taken_of events (first ∷ later)) i)))
-            && is_live plan events (first ∷ later))
+-- the lesser of two limits is reached where one of them is
+pub reached_lesser : (x y : Option ℤ) (now : Moment) → is_limit_reached (lesser_limit x y) now ≡ (is_limit_reached x now || is_limit_reached y now)
+reached_lesser x y (At time) =
+    sym (not_not (is_limit_reached (lesser_limit x y) (At time))) ∙ ap not (below_lesser x y time)
+    ∙ or_not (is_limit_reached x (At time)) (is_limit_reached y (At time))
+reached_lesser None y End = refl
+reached_lesser (Some x) None End = refl
+reached_lesser (Some x) (Some y) End = refl
 
-  -- The timeouts of a tick from some starts are the lists that wait from the due ones, start by start.
-  pub timeouts_at-waiting : (before : Option Moment) (now : Moment) (starts : ℕ → Bool)
-      → filter (begins_in starts) (timeouts_at plan events before now)
-      ≡ flat_map (waiting_at plan events) (filter (due_starts plan events before now starts) (range_with_len 0 (length events)))
-  timeouts_at-waiting before now starts =
-      timeouts_at-live plan events before now starts
-      ∙ filter-same (λ list. ((is_due (limit_of plan (taken_of events list)) before now && not (is_full plan (stages_of list)))
-      && begins_in starts list) && is_live plan events list)
-      (λ list. begins_in (due_starts plan events before now starts) list && unfinished plan events list) (lists_within plan (length events))
-      (nonempty (λ list. (((is_due (limit_of plan (taken_of events list)) before now && not (is_full plan (stages_of list)))
-      && begins_in starts list) && is_live plan events list)
-      ≡ (begins_in (due_starts plan events before now starts) list && unfinished plan events list))
-      (length plan.stages) 0 (length events)
-      (λ first later. and-moved (is_due (limit_from plan (event_at events first.position)) before now)
-      (not (is_full plan (stages_of (first ∷ later)))) (starts first.position) (is_live plan events (first ∷ later)))
-      (lists_within plan (length events)) (rising_lists-rising (length plan.stages) 0 (length events) (length events) (omega arith)))
-      ∙ by_starts (unfinished plan events) (due_starts plan events before now starts) (length plan.stages) 0 (length events)
-      ∙ (λ i. flat_map (λ start. waiting_at-start start i) (filter (due_starts plan events before now starts) (range_with_len 0 (length events))))
+-- Where neither limit was reached before, a list is due where its start is due or its last event is.
+pub is_due-lesser : (x y : Option ℤ) (before now : Moment) → is_limit_reached x before ≡ false → is_limit_reached y before ≡ false
+    → is_due (lesser_limit x y) (Some before) now ≡ (is_due x (Some before) now || is_due y (Some before) now)
+is_due-lesser x y before now h k =
+    (λ i. not (reached_lesser x y before i) && reached_lesser x y now i)
+    ∙ (λ i. not (h i || k i) && (is_limit_reached x now || is_limit_reached y now))
+    ∙ sym (λ i. (not (h i) && is_limit_reached x now) || (not (k i) && is_limit_reached y now))
+
+both_left : (a b : Bool) → not (a || b) ≡ (not a && not b)
+both_left true b = refl
+both_left false b = refl
+
+-- the lesser of two limits leaves time where both do
+pub is_time_left-lesser : (x y : Option ℤ) (last : Option Moment) → is_time_left (lesser_limit x y) last ≡ (is_time_left x last && is_time_left y last)
+is_time_left-lesser x y None = refl
+is_time_left-lesser x y (Some now) = ap not (reached_lesser x y now) ∙ both_left (is_limit_reached x now) (is_limit_reached y now)

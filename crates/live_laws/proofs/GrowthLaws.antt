@@ -1,5 +1,5 @@
 -- A list with one more entry, and what an event that is taken has to meet.
-use Rattle.std.proofs.Common.{◌≡◌, refl, ◌∙◌, ap, ℕ, ◌<◌, arith, Bool, true, false, ◌&&◌, List, [], ◌∷◌, ◌++◌, length, length-append, nat_lt}
+use Rattle.std.proofs.Common.{◌≡◌, refl, sym, ◌∙◌, ap, ℕ, ◌<◌, arith, Bool, true, false, ◌&&◌, List, [], ◌∷◌, ◌++◌, length, length-append, nat_lt}
 use Rattle.std.specs.Prelude.{Option, Some, None, IfSome}
 use Rattle.std.specs.Option.{option_map_or}
 use Rattle.std.proofs.lemmas.Bool.{lt-ltb}
@@ -11,20 +11,40 @@ use Rattle.cep_plan.specs.Entry.{Entry, event_at, taken_at, taken_of, last_entry
 use Rattle.cep_plan.specs.Follow.{may_follow}
 use Rattle.cep_plan.specs.Candidate.{fits}
 use Rattle.cep_plan.specs.Gap.{gap_holds}
-use Rattle.cep_plan.specs.Limit.{limit_of, is_below_limit, are_in_time}
+use Rattle.cep_plan.specs.Limit.{limit_from, limit_behind, last_behind, is_below_limit, are_within, are_near, are_near_behind, are_in_time}
 use Rattle.cep_plan.specs.Partial.{comes_later, extends, extends_all, has_entries, may_grow, is_partial, waits}
 use Rattle.cep_plan.proofs.HistoryLaws.{extends_all-append}
 use Rattle.cep_plan.proofs.LocalLaws.{AreAmong, taken_of-append, may_grow-append, gap_holds-append}
 use Rattle.live_laws.specs.Survival.{comes_in_time, takes}
-use Rattle.live_laws.proofs.BoolLaws.{and-true, and-crossed}
+use Rattle.live_laws.proofs.BoolLaws.{and-true, and-assoc, and-crossed}
+use Rattle.live_laws.proofs.LesserLaws.{below_lesser}
 use Rattle.live_laws.proofs.GapLaws.{list_all-push}
 use Rattle.live_laws.proofs.LastLaws.{last_or-each, taken_of-end}
 
+-- each event but the first comes before the limit that its neighbour sets
+are_near-push : (plan : Plan) (before : Taken) (taken : List Taken) (next : Taken)
+    → are_near_behind plan before (taken ++ next ∷ []) ≡ (are_near_behind plan before taken
+    && is_below_limit (limit_behind plan (last_behind before taken).event) next.event.ts)
+are_near-push plan before [] next = and-true (is_below_limit (limit_behind plan before.event) next.event.ts)
+are_near-push plan before (t ∷ taken) next =
+    ap (λ b. is_below_limit (limit_behind plan before.event) t.event.ts && b) (are_near-push plan t taken next)
+    ∙ sym (and-assoc (is_below_limit (limit_behind plan before.event) t.event.ts) (are_near_behind plan t taken)
+    (is_below_limit (limit_behind plan (last_behind t taken).event) next.event.ts))
+
+first_in_time : (b : Bool) → ((b && true) && true) ≡ ((true && true) && b)
+first_in_time true = refl
+first_in_time false = refl
+
 -- one more taken event
-are_in_time-push : (plan : Plan) (taken : List Taken) (next : Taken)
-    → are_in_time plan (taken ++ next ∷ []) ≡ (are_in_time plan taken && comes_in_time plan taken next.event)
-are_in_time-push plan [] next = and-true (comes_in_time plan [] next.event)
-are_in_time-push plan (first ∷ later) next = list_all-push (λ t. is_below_limit (limit_of plan (first ∷ later)) t.event.ts) (first ∷ later) next
+are_in_time-push : (plan : Plan) (taken : List Taken) (next : Taken) → are_in_time plan (taken ++ next ∷ [])
+    ≡ (are_in_time plan taken && comes_in_time plan taken next.event)
+are_in_time-push plan [] next = first_in_time (comes_in_time plan [] next.event)
+are_in_time-push plan (first ∷ later) next =
+    let whole = limit_from plan first.event in
+    let near = limit_behind plan (last_behind first later).event in
+    (λ i. list_all-push (λ t. is_below_limit whole t.event.ts) (first ∷ later) next i && are_near-push plan first later next i)
+    ∙ and-crossed (are_within plan (first ∷ later)) (is_below_limit whole next.event.ts) (are_near plan (first ∷ later)) (is_below_limit near next.event.ts)
+    ∙ ap (λ b. are_in_time plan (first ∷ later) && b) (sym (below_lesser whole near next.event.ts))
 
 crossed : (a x b w : Bool) → ((a && (x && true)) && (b && w)) ≡ ((a && b) && (x && w))
 crossed a x b w = (λ i. (a && and-true x i) && (b && w)) ∙ and-crossed a x b w

@@ -14,3 +14,6 @@ pub mod KeepLaws
 pub mod TickLaws
 pub mod DueLaws
 pub mod TimeLaws
+pub mod LesserLaws
+pub mod TimeoutLaws
+pub mod ScopeLaws

@@ -1,17 +1,17 @@
 -- A list is live where it is a partial match and waits for some stage.
-use Rattle.std.proofs.Common.{◌≡◌, ap, ◌∙◌, ℕ, arith, Bool, true, false, List, [], ◌∷◌, length, ◌⊎◌, inl, inr}
+use Rattle.std.proofs.Common.{◌≡◌, ap, ◌∙◌, ℕ, ◌+◌, arith, Bool, true, false, List, [], ◌∷◌, length, ◌⊎◌, inl, inr}
 use Rattle.std.specs.Prelude.{Contains}
 use Rattle.std.specs.List.{list_any, range_with_len}
 use Rattle.std.proofs.lemmas.Bool.{and_parts, and_from, or_cases, or_left, or_right}
 use Rattle.cep_event.specs.declared.event.Event.{Event}
 use Rattle.cep_plan.specs.declared.plan.Plan.{Plan}
 use Rattle.cep_plan.specs.Entry.{Entry, stages_of}
-use Rattle.cep_plan.specs.Follow.{may_follow}
+use Rattle.cep_plan.specs.Follow.{end_stage, may_follow}
 use Rattle.cep_plan.specs.Gap.{gap_holds}
 use Rattle.cep_plan.specs.Partial.{may_grow, is_partial, is_open_for, waits, is_live}
 use Rattle.cep_plan.proofs.SortedLaws.{Contains-cases}
 use Rattle.live_laws.proofs.MemberLaws.{Contains-none, Contains-range}
-use Rattle.live_laws.proofs.PartialLaws.{stage_known, is_partial-may_grow}
+use Rattle.live_laws.proofs.PartialLaws.{stage_awaited, is_partial-may_grow}
 
 module _ {X : Type 0} (test : X → Bool) where
   pub list_any-from : (xs : List X) → list_any test xs ≡ true → (x : X) × (test x ≡ true)
@@ -36,14 +36,14 @@ is_live-waits plan events list stage partial h =
     let open_for = (and_parts (may_grow plan events list) (is_open_for plan events list stage) h).1 in
     let follow = (and_parts (may_follow plan (stages_of list) stage) (gap_holds plan events list stage (length events)) open_for).0 in
     and_from _ _ partial
-    (list_any-contains (is_open_for plan events list) (range_with_len 0 (length plan.stages)) stage
-    (Contains-range 0 (length plan.stages) stage (omega arith) (omega (arith, stage_known plan (stages_of list) stage follow))) open_for)
+    (list_any-contains (is_open_for plan events list) (range_with_len 0 (end_stage plan + 1)) stage
+    (Contains-range 0 (end_stage plan + 1) stage (omega arith) (omega (arith, stage_awaited plan (stages_of list) stage follow))) open_for)
 
 -- A live list is a partial match, and waits for some stage.
 pub waits-is_live : (plan : Plan) (events : List Event) (list : List Entry) → is_live plan events list ≡ true → (is_partial plan events list ≡ true)
     × ((stage : ℕ) × (waits plan events list stage ≡ true))
 unfolding is_live waits
 waits-is_live plan events list h =
-    let both = and_parts (is_partial plan events list) (list_any (is_open_for plan events list) (range_with_len 0 (length plan.stages))) h in
-    let some = list_any-from (is_open_for plan events list) (range_with_len 0 (length plan.stages)) both.1 in
+    let both = and_parts (is_partial plan events list) (list_any (is_open_for plan events list) (range_with_len 0 (end_stage plan + 1))) h in
+    let some = list_any-from (is_open_for plan events list) (range_with_len 0 (end_stage plan + 1)) both.1 in
     (both.0, (some.0, and_from _ _ (is_partial-may_grow plan events list both.0) some.1))

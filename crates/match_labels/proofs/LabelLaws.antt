@@ -15,13 +15,13 @@ use Rattle.std.proofs.Common.{true≢false, ⊎_elim}
 use Rattle.cep_event.specs.declared.event.Event.{Event}
 use Rattle.cep_plan.specs.declared.plan.Plan.{Plan}
 use Rattle.cep_plan.specs.Entry.{Entry, no_event, event_at, taken_of, stages_of, last_entry}
-use Rattle.cep_plan.specs.Follow.{may_follow, may_follow_last, has_room, has_enough, all_optional}
+use Rattle.cep_plan.specs.Follow.{end_stage, is_closing, may_end, may_come, may_follow, may_follow_last, has_room, has_enough, all_optional}
 use Rattle.cep_plan.specs.Candidate.{fits, is_candidate}
 use Rattle.cep_plan.specs.Gap.{contiguity_of, contiguity_allows, spares, gap_spares, gap_between, gap_holds}
 use Rattle.cep_plan.specs.Partial.{comes_later, extends, extends_all, is_partial, may_grow}
 use Rattle.nfa_compile.specs.Automaton.{is_chaining, is_same_chain, mode_behind}
 use Rattle.live_laws.proofs.LastLaws.{last_or-map, last_or-push}
-use Rattle.live_laws.proofs.PartialLaws.{stage_known, is_partial-may_grow}
+use Rattle.live_laws.proofs.PartialLaws.{stage_awaited, is_partial-may_grow}
 use Rattle.live_laws.proofs.GrowthLaws.{may_grow-push, has_entries-push}
 use Rattle.match_labels.specs.Label.{Mark, stays, branches_off, earlier_takes, branches_below, branches_in, event_digit, step_digits, mark_behind, mark_from, no_mark, label_of}
 
@@ -146,18 +146,31 @@ extends-parts plan events list next h =
 -- a stage that follows isn't before the last one
 follows-later : (plan : Plan) (so_far : List ℕ) (last stage : ℕ) → last_or None so_far ≡ Some last → may_follow plan so_far stage ≡ true → last ≤ stage
 unfolding may_follow
-follows-later plan so_far last stage is h =
-    by_last (subst (λ o. may_follow_last plan so_far stage o ≡ true) is
-    (and_parts (nat_lt stage (length plan.stages)) (may_follow_last plan so_far stage (last_or None so_far)) h).1) where
-      by_last :
-          (if stage == last then has_room plan so_far stage else
-          (nat_lt last stage && has_enough plan so_far last && all_optional plan (last + 1) stage)) ≡ true → last ≤ stage
-      by_last k = elim (cases_Bool (stage == last)) [
-        | inl same ↦ let is : stage ≡ last = eqb-true stage last same in omega (arith, is)
-        | inr other ↦
-            let rest : (nat_lt last stage && has_enough plan so_far last && all_optional plan (last + 1) stage) ≡ true = sym (rw other refl) ∙ k in
-            let lt : last < stage = ltb-true last stage (and_parts (nat_lt last stage) _ (and_parts (nat_lt last stage && has_enough plan so_far last) _ rest).0).0 in omega (arith, lt)
-      ]
+follows-later plan so_far last stage is h = by_end (stage == end_stage plan) refl h where
+  ended : may_end plan so_far ≡ true → last + 1 ≡ end_stage plan
+  ended k =
+      let ends = (and_parts (is_closing plan) _ k).1 in
+      let here = subst (λ o. option_map_or (λ s. s + 1 == end_stage plan && has_enough plan so_far s) o false ≡ true) is ends in
+      eqb-true (last + 1) (end_stage plan) (and_parts (last + 1 == end_stage plan) (has_enough plan so_far last) here).0
+
+  by_last :
+      (if stage == last then has_room plan so_far stage else
+      (nat_lt last stage && has_enough plan so_far last && all_optional plan (last + 1) stage)) ≡ true → last ≤ stage
+  by_last k = elim (cases_Bool (stage == last)) [
+    | inl same ↦ let is : stage ≡ last = eqb-true stage last same in omega (arith, is)
+    | inr other ↦
+        let rest : (nat_lt last stage && has_enough plan so_far last && all_optional plan (last + 1) stage) ≡ true = sym (rw other refl) ∙ k in
+        let lt : last < stage = ltb-true last stage (and_parts (nat_lt last stage) _ (and_parts (nat_lt last stage && has_enough plan so_far last) _ rest).0).0 in omega (arith, lt)
+  ]
+
+  by_end : (b : Bool) → (stage == end_stage plan) ≡ b → (if b then may_end plan so_far else may_come plan so_far stage) ≡ true → last ≤ stage
+  by_end true at k =
+      let same : stage ≡ end_stage plan = eqb-true stage (end_stage plan) at in
+      let one = ended k in
+      omega (arith, same, one)
+  by_end false at k =
+      by_last (subst (λ o. may_follow_last plan so_far stage o ≡ true) is
+      (and_parts (nat_lt stage (length plan.stages)) (may_follow_last plan so_far stage (last_or None so_far)) k).1)
 
 -- ---- one stage and two events
 
@@ -303,7 +316,7 @@ one_stays plan events list mark a b end xs ys hb rest ends_a ends_b same other a
       later = let le = follows-later plan (stages_of list) a.stage b.stage was follows in omega (arith, le, apart)
 
       below : branches_below plan (stages_of list) b.stage + 1 ≤ branches_in plan (stages_of list)
-      below = branches-rise plan (stages_of list) b.stage (length plan.stages) follows other (stage_known plan (stages_of list) b.stage follows)
+      below = branches-rise plan (stages_of list) b.stage (end_stage plan + 1) follows other (stage_awaited plan (stages_of list) b.stage follows)
 
       beyond : b.stage ≤ end.stage
       beyond =

@@ -1,11 +1,11 @@
 -- How the digits of a step are counted along the automaton: among the waits of a list's state, those that branch off.
-use Rattle.std.proofs.Common.{◌≡◌, refl, sym, ◌∙◌, ap, ℕ, zero, suc, ◌+◌, ◌-◌, ◌≤◌, arith, Bool, true, false, cond, not, ◌&&◌, List, [], ◌∷◌, ◌++◌, length, map, get_or, drop, inl, inr}
+use Rattle.std.proofs.Common.{◌≡◌, refl, sym, ◌∙◌, ap, ℕ, zero, suc, ◌+◌, ◌-◌, ◌≤◌, arith, Bool, true, false, cond, not, ◌&&◌, List, [], ◌∷◌, ◌++◌, map, get_or, drop, inl, inr}
 use Rattle.std.specs.Prelude.{filter}
 use Rattle.std.specs.List.{count_by, range_with_len}
 use Rattle.std.proofs.lemmas.Bool.{cases_Bool}
 use Rattle.std.proofs.lemmas.List.Sums.{sum_by-append}
 use Rattle.cep_plan.specs.declared.plan.Plan.{Plan}
-use Rattle.cep_plan.specs.Follow.{may_follow}
+use Rattle.cep_plan.specs.Follow.{end_stage, may_follow}
 use Rattle.nfa_compile.specs.declared.nfa.Wait.{Wait}
 use Rattle.nfa_compile.specs.Automaton.{wait_for, waits_of}
 use Rattle.match_labels.specs.Label.{stays, branches, branches_off, branches_below, branches_in}
@@ -88,7 +88,7 @@ module _ (follows apart : ℕ → Bool) (wait : ℕ → Wait) (named : (stage : 
 pub branches_in-waits : (plan : Plan) (so_far : List ℕ) → count_by branches (waits_of plan so_far) ≡ branches_in plan so_far
 unfolding branches_below waits_of wait_for
 branches_in-waits plan so_far =
-    all-counted (may_follow plan so_far) (λ stage. not (stays plan so_far stage)) (wait_for plan so_far) (λ stage. refl) (λ stage. refl) 0 (length plan.stages)
+    all-counted (may_follow plan so_far) (λ stage. not (stays plan so_far stage)) (wait_for plan so_far) (λ stage. refl) (λ stage. refl) 0 (end_stage plan + 1)
 
 -- and as many in front of a wait as there are stages below its own that do
 pub branches_below-waits : (plan : Plan) (so_far : List ℕ) (front back : List Wait) (wait : Wait) → waits_of plan so_far ≡ front ++ wait ∷ back
@@ -97,5 +97,5 @@ unfolding branches_below waits_of wait_for
 branches_below-waits plan so_far front back wait is =
     let size : wait.stage - 0 ≡ wait.stage = omega arith in
     (front-counted (may_follow plan so_far) (λ stage. not (stays plan so_far stage)) (wait_for plan so_far) (λ stage. refl) (λ stage. refl) 0
-    (length plan.stages) front back wait is).1
+    (end_stage plan + 1) front back wait is).1
     ∙ ap (λ k. count_by (branches_off plan so_far) (range_with_len 0 k)) size

@@ -1,12 +1,12 @@
 -- The labels of lists. Where a list goes on in the same chain, its label stays; else the label gets a digit more for the stage, and where all events
 -- may be let pass, one more for the event. After the Dewey numbers of the SIGMOD 2008 paper of Agrawal, Diao, Gyllstrom and Immerman; which digits
 -- there are is this project's own.
-use Rattle.std.specs.Prelude.{ℕ, ◌+◌, Bool, not, ◌&&◌, if◌then◌else◌, List, [], ◌∷◌, ◌++◌, length, None}
+use Rattle.std.specs.Prelude.{ℕ, ◌+◌, Bool, not, ◌&&◌, if◌then◌else◌, List, [], ◌∷◌, ◌++◌, None}
 use Rattle.std.specs.List.{last_or, count_by, range_with_len}
 use Rattle.cep_event.specs.declared.event.Event.{Event}
 use Rattle.cep_plan.specs.declared.plan.Plan.{Plan}
 use Rattle.cep_plan.specs.Entry.{Entry, stages_of}
-use Rattle.cep_plan.specs.Follow.{may_follow}
+use Rattle.cep_plan.specs.Follow.{end_stage, may_follow}
 use Rattle.cep_plan.specs.Partial.{is_partial}
 use Rattle.nfa_compile.specs.declared.nfa.Wait.{Wait}
 use Rattle.nfa_compile.specs.Automaton.{is_chaining, is_same_chain, mode_behind}
@@ -32,9 +32,9 @@ branches wait = not wait.same_chain
 unfoldable pub branches_below : Plan → List ℕ → ℕ → ℕ
 branches_below plan so_far stage = count_by (branches_off plan so_far) (range_with_len 0 stage)
 
--- how many branch off in all
+-- how many branch off in all, the end stage among them
 abbrev pub branches_in : Plan → List ℕ → ℕ
-branches_in plan so_far = branches_below plan so_far (length plan.stages)
+branches_in plan so_far = branches_below plan so_far (end_stage plan + 1)
 
 -- how many events before this one could stand in its place
 unfoldable pub earlier_takes : Plan → List Event → List Entry → Entry → ℕ

@@ -1,14 +1,14 @@
 -- What a run over the automaton may rely on: at the number of a list's state it finds what the list waits for, and a take leads to the number of the
 -- longer list's state.
-use Rattle.std.proofs.Common.{◌≡◌, refl, sym, ◌∙◌, ap, ℕ, zero, suc, ◌+◌, ◌-◌, ◌≤◌, ◌<◌, min, arith, Bool, true, false, ◌&&◌, ◌||◌, cond, ◌⊎◌, inl, inr, List, [], ◌∷◌, ◌++◌, length, map, nat_lt}
+use Rattle.std.proofs.Common.{◌≡◌, refl, sym, ◌∙◌, ap, ℕ, zero, suc, ◌+◌, ◌-◌, ◌≤◌, ◌<◌, min, arith, Bool, true, false, ◌&&◌, ◌||◌, cond, ◌⊎◌, inl, inr, List, [], ◌∷◌, ◌++◌, length, map}
 use Rattle.std.specs.Prelude.{Option, Some, None, ◌==◌, filter, slice_get}
 use Rattle.std.specs.List.{last_or, list_any, range_with_len, AllByRecursion as Each}
 use Rattle.std.specs.Option.{option_map_or}
-use Rattle.std.proofs.lemmas.Bool.{and_parts, and_from, and_right, or_left, or_right, eqb-true, eq-eqb, ltb-true, cases_order}
+use Rattle.std.proofs.lemmas.Bool.{and_from, and_right, or_left, or_right, eqb-true, eq-eqb, cases_order}
 use Rattle.cep_event.specs.declared.event.Event.{Event}
 use Rattle.cep_plan.specs.declared.plan.Plan.{Plan}
 use Rattle.cep_plan.specs.Entry.{Entry, stages_of}
-use Rattle.cep_plan.specs.Follow.{count_for, may_follow, may_follow_last, is_full}
+use Rattle.cep_plan.specs.Follow.{count_for, end_stage, may_follow, is_full}
 use Rattle.cep_plan.specs.Gap.{contiguity_of}
 use Rattle.cep_plan.specs.Partial.{may_grow}
 use Rattle.nfa_compile.specs.declared.state.State.{State}
@@ -16,6 +16,7 @@ use Rattle.nfa_compile.specs.declared.nfa.Wait.{Wait}
 use Rattle.nfa_compile.specs.declared.nfa.Took.{Took}
 use Rattle.nfa_compile.specs.State.{greatest_at, states_before, number_of_state, count_in, state_of, state_behind, stages_at, stages_behind, IsCompilable}
 use Rattle.nfa_compile.specs.Automaton.{mode_behind, negations_behind, wait_for, waits_of, took_of, automaton_of, negations_between, number_of_list, waits_in}
+use Rattle.nfa_compile.proofs.EndLaws.{stage_awaited, target_inside}
 use Rattle.nfa_compile.proofs.ReachLaws.{IsInOrder, last_or-push, order-grows}
 use Rattle.nfa_compile.proofs.WaitLaws.{some_event, waits_of_state, is_full_state}
 use Rattle.nfa_compile.proofs.StateNumberLaws.{took_at_number}
@@ -67,28 +68,23 @@ stage_of_wait : (plan : Plan) (so_far : List ℕ) (stage : ℕ) → (wait_for pl
 unfolding wait_for
 stage_of_wait plan so_far stage = refl
 
-inside : (plan : Plan) (so_far : List ℕ) (stage : ℕ) → may_follow plan so_far stage ≡ true → stage < length plan.stages
-unfolding may_follow
-inside plan so_far stage h =
-    ltb-true stage (length plan.stages) (and_parts (nat_lt stage (length plan.stages)) (may_follow_last plan so_far stage (last_or None so_far)) h).0
-
 -- A list has a wait for a stage just where the stage may follow.
 pub wait_where_follows : (plan : Plan) (so_far : List ℕ) (stage : ℕ) → list_any (λ w. w.stage == stage) (waits_of plan so_far) ≡ may_follow plan so_far stage
 unfolding waits_of
 wait_where_follows plan so_far stage =
-    any_kept (wait_for plan so_far) (may_follow plan so_far) stage (stage_of_wait plan so_far) (range_with_len 0 (length plan.stages))
+    any_kept (wait_for plan so_far) (may_follow plan so_far) stage (stage_of_wait plan so_far) (range_with_len 0 (end_stage plan + 1))
     ∙ by_test (may_follow plan so_far stage) refl where
-      by_test : (b : Bool) → may_follow plan so_far stage ≡ b → (list_any (λ x. x == stage) (range_with_len 0 (length plan.stages)) && b) ≡ b
+      by_test : (b : Bool) → may_follow plan so_far stage ≡ b → (list_any (λ x. x == stage) (range_with_len 0 (end_stage plan + 1)) && b) ≡ b
       by_test true is =
-          and_from (list_any (λ x. x == stage) (range_with_len 0 (length plan.stages))) true
-          (let below = inside plan so_far stage is in any_range 0 (length plan.stages) stage (omega arith) (omega (arith, below))) refl
-      by_test false is = and_right (list_any (λ x. x == stage) (range_with_len 0 (length plan.stages))) false refl
+          and_from (list_any (λ x. x == stage) (range_with_len 0 (end_stage plan + 1))) true
+          (let below = stage_awaited plan so_far stage is in any_range 0 (end_stage plan + 1) stage (omega arith) (omega (arith, below))) refl
+      by_test false is = and_right (list_any (λ x. x == stage) (range_with_len 0 (end_stage plan + 1))) false refl
 
 -- Each wait of a list is the one for its stage, which may follow.
 pub each_wait : (plan : Plan) (so_far : List ℕ)
     → Each (λ w. (may_follow plan so_far w.stage ≡ true) × (w ≡ wait_for plan so_far w.stage)) (waits_of plan so_far)
 unfolding waits_of
-each_wait plan so_far = all (range_with_len 0 (length plan.stages)) where
+each_wait plan so_far = all (range_with_len 0 (end_stage plan + 1)) where
   one : (stage : ℕ) (b : Bool) (rest : List ℕ) → may_follow plan so_far stage ≡ b
       → Each (λ w. (may_follow plan so_far w.stage ≡ true) × (w ≡ wait_for plan so_far w.stage)) (map (wait_for plan so_far) rest)
       → Each (λ w. (may_follow plan so_far w.stage ≡ true) × (w ≡ wait_for plan so_far w.stage)) (map (wait_for plan so_far) (cond b (stage ∷ rest) rest))
@@ -122,9 +118,12 @@ pub state_after_take : (plan : Plan) (so_far : List ℕ) (stage : ℕ)
 unfolding state_of wait_for
 state_after_take plan so_far stage = ap (state_behind plan (so_far ++ stage ∷ [])) (last_or-push None so_far stage)
 
-pub number_after_take : (plan : Plan) (so_far : List ℕ) (stage : ℕ) → number_of_list plan (so_far ++ stage ∷ []) ≡ (wait_for plan so_far stage).state
+pub number_after_take : (plan : Plan) (so_far : List ℕ) (stage : ℕ) → stage < length plan.stages
+    → number_of_list plan (so_far ++ stage ∷ []) ≡ (wait_for plan so_far stage).state
 unfolding wait_for
-number_after_take plan so_far stage = ap (λ o. option_map_or (λ state. number_of_state plan state.stage state.count) o 0) (state_after_take plan so_far stage)
+number_after_take plan so_far stage inside =
+    ap (λ o. option_map_or (λ state. number_of_state plan state.stage state.count) o 0) (state_after_take plan so_far stage)
+    ∙ sym (target_inside plan so_far stage inside)
 
 -- ---- lookups
 

@@ -1,5 +1,5 @@
 -- How many events a list has for a stage.
-use Rattle.std.proofs.Common.{◌≡◌, refl, sym, ◌∙◌, ap, ℕ, zero, suc, ◌+◌, ◌≤◌, arith, Bool, true, false, ◌&&◌, cond, List, [], ◌∷◌, ◌++◌, length, length-append}
+use Rattle.std.proofs.Common.{◌≡◌, refl, sym, ◌∙◌, ap, ℕ, zero, suc, ◌+◌, ◌≤◌, arith, Bool, true, false, not, ◌&&◌, cond, List, [], ◌∷◌, ◌++◌, length, length-append}
 use Rattle.std.specs.Prelude.{Option, Some, None, ◌==◌, filter, replicate}
 use Rattle.std.specs.List.{last_or}
 use Rattle.std.proofs.lemmas.Bool.{eq-eqb}
@@ -7,7 +7,7 @@ use Rattle.std.proofs.lemmas.List.Elements.{filter-append}
 use Rattle.std.proofs.lemmas.List.Sums.{length-filter}
 use Rattle.std.specs.Option.{option_map_or}
 use Rattle.cep_plan.specs.declared.plan.Plan.{Plan}
-use Rattle.cep_plan.specs.Follow.{count_for, is_full, is_full_at, has_enough, all_optional}
+use Rattle.cep_plan.specs.Follow.{count_for, is_closing, is_full, is_full_at}
 use Rattle.nfa_compile.specs.declared.state.State.{State}
 use Rattle.nfa_compile.specs.State.{stages_at}
 
@@ -60,6 +60,7 @@ last_same stage (suc count) h = later None count where
 
 -- whether the lists of a state are full
 pub full_at : (plan : Plan) (state : State) → 1 ≤ state.count
-    → is_full plan (stages_at state) ≡ (has_enough plan (stages_at state) state.stage && all_optional plan (state.stage + 1) (length plan.stages))
+    → is_full plan (stages_at state) ≡ (not (is_closing plan) && is_full_at plan (stages_at state) state.stage)
 unfolding is_full
-full_at plan state some_event = ap (λ o. option_map_or (is_full_at plan (stages_at state)) o false) (last_same state.stage state.count some_event)
+full_at plan state some_event =
+    ap (λ o. not (is_closing plan) && option_map_or (is_full_at plan (stages_at state)) o false) (last_same state.stage state.count some_event)

@@ -2,6 +2,7 @@ pub mod RangeLaws
 pub mod CountLaws
 pub mod NumberLaws
 pub mod StateListLaws
+pub mod EndLaws
 pub mod ReachLaws
 pub mod WaitLaws
 pub mod StateNumberLaws

@@ -7,12 +7,13 @@ use Rattle.std.proofs.lemmas.List.{append-nil}
 use Rattle.cep_event.specs.declared.event.Event.{Event}
 use Rattle.cep_plan.specs.declared.plan.Plan.{Plan}
 use Rattle.cep_plan.specs.Entry.{Entry, stages_of, taken_of, event_at}
-use Rattle.cep_plan.specs.Follow.{count_for, may_follow, may_follow_last, has_room, has_enough, all_optional}
+use Rattle.cep_plan.specs.Follow.{count_for, may_come, may_follow, may_follow_last, has_room, has_enough, all_optional}
 use Rattle.cep_plan.specs.Candidate.{fits}
 use Rattle.cep_plan.specs.Gap.{gap_holds}
 use Rattle.cep_plan.specs.Limit.{are_in_time}
 use Rattle.cep_plan.specs.Partial.{comes_later, extends, extends_all, may_grow}
 use Rattle.nfa_compile.proofs.CountLaws.{counted, count_for-push}
+use Rattle.nfa_compile.proofs.EndLaws.{stage_fitted, follows_inside}
 
 pub last_or-push : {X : Type 0} (o : Option X) (xs : List X) (x : X) → last_or o (xs ++ x ∷ []) ≡ Some x
 last_or-push o [] x = refl
@@ -59,8 +60,7 @@ none_behind plan so_far next (Some last) before is h later above =
     let reached = not_earlier plan so_far next last h in
     before.none_later last later is (omega (arith, reached, above))
 
-pub order-push : (plan : Plan) (so_far : List ℕ) (next : ℕ) → IsInOrder plan so_far → may_follow plan so_far next ≡ true → IsInOrder plan (so_far ++ next ∷ [])
-unfolding may_follow
+pub order-push : (plan : Plan) (so_far : List ℕ) (next : ℕ) → IsInOrder plan so_far → may_come plan so_far next ≡ true → IsInOrder plan (so_far ++ next ∷ [])
 order-push plan so_far next before follows =
     let both = and_parts (nat_lt next (length plan.stages)) (may_follow_last plan so_far next (last_or None so_far)) follows in
     record {
@@ -76,11 +76,13 @@ order-push plan so_far next before follows =
     }
 
 module _ (plan : Plan) (events : List Event) where
-  follows_first : (list : List Entry) (next : Entry) → extends plan events list next ≡ true → may_follow plan (stages_of list) next.stage ≡ true
-  follows_first list next h =
+  comes_first : (list : List Entry) (next : Entry) → extends plan events list next ≡ true → may_come plan (stages_of list) next.stage ≡ true
+  comes_first list next h =
       let three = and_parts (may_follow plan (stages_of list) next.stage && comes_later events list next.position && fits plan (taken_of events list) next.stage (event_at events next.position) next.position) (gap_holds plan events list next.stage next.position) h in
       let two = and_parts (may_follow plan (stages_of list) next.stage && comes_later events list next.position) (fits plan (taken_of events list) next.stage (event_at events next.position) next.position) three.0 in
-      (and_parts (may_follow plan (stages_of list) next.stage) (comes_later events list next.position) two.0).0
+      let inside = stage_fitted plan (taken_of events list) next.stage (event_at events next.position) next.position two.1 in
+      sym (follows_inside plan (stages_of list) next.stage inside)
+      ∙ (and_parts (may_follow plan (stages_of list) next.stage) (comes_later events list next.position) two.0).0
 
   stages_of-push : (list : List Entry) (next : Entry) → stages_of (list ++ next ∷ []) ≡ stages_of list ++ next.stage ∷ []
   stages_of-push [] next = refl
@@ -91,7 +93,8 @@ module _ (plan : Plan) (events : List Event) where
   order-all before [] order h = subst (IsInOrder plan) (sym (append-nil (stages_of before))) order
   order-all before (next ∷ later) order h =
       let both = and_parts (extends plan events before next) (extends_all plan events (before ++ next ∷ []) later) h in
-      let pushed = subst (IsInOrder plan) (sym (stages_of-push before next)) (order-push plan (stages_of before) next.stage order (follows_first before next both.0)) in
+      let pushed = subst (IsInOrder plan) (sym (stages_of-push before next))
+      (order-push plan (stages_of before) next.stage order (comes_first before next both.0)) in
       subst (IsInOrder plan) (joined before next later) (order-all (before ++ next ∷ []) later pushed both.1) where
         joined : (before : List Entry) (next : Entry) (later : List Entry)
             → stages_of (before ++ next ∷ []) ++ stages_of later ≡ stages_of before ++ stages_of (next ∷ later)

@@ -1,16 +1,18 @@
 -- What the automaton says of lists: a list waits for what its state waits for, and a take leads to the state of the longer list.
-use Rattle.std.proofs.Common.{◌≡◌, refl, sym, ◌∙◌, ap, subst, ℕ, zero, suc, ◌+◌, ◌≤◌, ◌<◌, min, arith, Bool, true, false, ◌&&◌, cond, ◌⊎◌, inl, inr, List, [], ◌∷◌, ◌++◌, length, map, nat_lt}
-use Rattle.std.specs.Prelude.{Option, Some, None, ◌==◌, nat_le, filter, slice_get}
+use Rattle.std.proofs.Common.{◌≡◌, refl, sym, ◌∙◌, ap, subst, ℕ, zero, suc, ◌+◌, ◌≤◌, ◌<◌, min, arith, Bool, true, false, not, ◌&&◌, cond, ◌⊎◌, inl, inr, List, [], ◌∷◌, ◌++◌, length, map, nat_lt}
+use Rattle.std.specs.Prelude.{Option, Some, None, ◌==◌, if◌then◌else◌, nat_le, filter, slice_get}
 use Rattle.std.specs.List.{last_or, list_all, range_with_len}
 use Rattle.std.specs.Option.{option_map_or}
 use Rattle.std.proofs.lemmas.Bool.{and_parts, eqb-true, eq-eqb, lt-ltb, le-ltb, leb-true, le-leb, lt-leb, cases_order}
 use Rattle.cep_plan.specs.declared.plan.Plan.{Plan}
 use Rattle.cep_plan.specs.declared.plan.Stage.{Stage}
-use Rattle.cep_plan.specs.Follow.{count_for, is_below, may_follow, may_follow_last, has_room, has_enough, all_optional, is_full, is_full_at}
+use Rattle.cep_plan.specs.declared.plan.Contiguity.TheVariants.{Any}
+use Rattle.cep_plan.specs.Follow.{count_for, is_below, end_stage, is_closing, may_end, may_come, may_follow, may_follow_last, has_room, has_enough, all_optional, is_full, is_full_at}
 use Rattle.nfa_compile.specs.declared.state.State.{State}
 use Rattle.nfa_compile.specs.State.{most_within, greatest_count, greatest_at, number_of_state, count_in, state_of, state_behind, stages_at, stages_behind, has_bounds, IsCompilable}
 use Rattle.nfa_compile.specs.Automaton.{mode_behind, is_same_chain, negations_behind, wait_for, waits_of}
 use Rattle.nfa_compile.proofs.CountLaws.{counted, count_for-push, count_for-first, count_same, count_other, last_same}
+use Rattle.nfa_compile.proofs.EndLaws.{wait_at_end}
 use Rattle.nfa_compile.proofs.ReachLaws.{IsInOrder, none_last, not_earlier, some_same}
 
 -- ---- one stage
@@ -122,26 +124,36 @@ module _ (plan : Plan) (fit : IsCompilable plan) (so_far : List ℕ) (order : Is
   cut : count_for last (stages_at at_last) ≡ min (count_for last so_far) (greatest_at plan last)
   cut = count_same last (count_in plan so_far last)
 
-  may_same : (stage : ℕ) → may_follow plan (stages_at at_last) stage ≡ may_follow plan so_far stage
-  unfolding may_follow
-  may_same stage =
+  come_same : (stage : ℕ) → may_come plan (stages_at at_last) stage ≡ may_come plan so_far stage
+  come_same stage =
       ap (λ b. nat_lt stage (length plan.stages) && b)
       (ap (may_follow_last plan (stages_at at_last) stage) (last_same last (count_in plan so_far last) some_event)
       ∙ follow_same plan so_far (stages_at at_last) last stage (room_same plan so_far (stages_at at_last) last cut)
       (enough_same plan so_far (stages_at at_last) last cut fit.bounds)
       ∙ sym (ap (may_follow_last plan so_far stage) ends))
 
+  end_same : may_end plan (stages_at at_last) ≡ may_end plan so_far
+  end_same =
+      ap (λ o. is_closing plan && option_map_or (λ s. s + 1 == end_stage plan && has_enough plan (stages_at at_last) s) o false)
+      (last_same last (count_in plan so_far last) some_event)
+      ∙ ap (λ b. is_closing plan && (last + 1 == end_stage plan && b)) (enough_same plan so_far (stages_at at_last) last cut fit.bounds)
+      ∙ sym (ap (λ o. is_closing plan && option_map_or (λ s. s + 1 == end_stage plan && has_enough plan so_far s) o false) ends)
+
+  may_same : (stage : ℕ) → may_follow plan (stages_at at_last) stage ≡ may_follow plan so_far stage
+  unfolding may_follow
+  may_same stage = λ i. if stage == end_stage plan then end_same i else come_same stage i
+
   full_same : is_full plan (stages_at at_last) ≡ is_full plan so_far
   unfolding is_full
   full_same =
-      ap (λ o. option_map_or (is_full_at plan (stages_at at_last)) o false) (last_same last (count_in plan so_far last) some_event)
-      ∙ ap (λ b. b && all_optional plan (last + 1) (length plan.stages)) (enough_same plan so_far (stages_at at_last) last cut fit.bounds)
-      ∙ sym (ap (λ o. option_map_or (is_full_at plan so_far) o false) ends)
+      ap (λ o. not (is_closing plan) && option_map_or (is_full_at plan (stages_at at_last)) o false) (last_same last (count_in plan so_far last) some_event)
+      ∙ ap (λ b. not (is_closing plan) && (b && all_optional plan (last + 1) (length plan.stages)))
+      (enough_same plan so_far (stages_at at_last) last cut fit.bounds)
+      ∙ sym (ap (λ o. not (is_closing plan) && option_map_or (is_full_at plan so_far) o false) ends)
 
   -- one more event, where the stage is the last one or a later one
-  count_same_next : (stage : ℕ) → may_follow plan so_far stage ≡ true
+  count_same_next : (stage : ℕ) → may_come plan so_far stage ≡ true
       → count_in plan (stages_at at_last ++ stage ∷ []) stage ≡ count_in plan (so_far ++ stage ∷ []) stage
-  unfolding may_follow
   count_same_next stage follows =
       ap (λ n. min n (greatest_at plan stage)) (one_more (stages_at at_last))
       ∙ by_test (last == stage) refl
@@ -171,13 +183,16 @@ module _ (plan : Plan) (fit : IsCompilable plan) (so_far : List ℕ) (order : Is
             let none_too = order.none_later last stage ends (later is) in
             omega (arith, none, none_too)
 
-  wait_same : (stage : ℕ) → may_follow plan so_far stage ≡ true → wait_for plan (stages_at at_last) stage ≡ wait_for plan so_far stage
+  ends_same : last_or None (stages_at at_last) ≡ last_or None so_far
+  ends_same = last_same last (count_in plan so_far last) some_event ∙ sym ends
+
+  wait_same-stage : (stage : ℕ) → may_come plan so_far stage ≡ true → wait_for plan (stages_at at_last) stage ≡ wait_for plan so_far stage
   unfolding wait_for
-  wait_same stage follows =
+  wait_same-stage stage follows =
       let count = count_same_next stage follows in
-      let before = last_same last (count_in plan so_far last) some_event ∙ sym ends in
+      let before = ends_same in
       λ i. record {
-        state = number_of_state plan stage (count i);
+        state = if stage == end_stage plan then 0 else number_of_state plan stage (count i);
         stage = stage;
         count = count i;
         mode = mode_behind plan (before i) stage;
@@ -185,11 +200,33 @@ module _ (plan : Plan) (fit : IsCompilable plan) (so_far : List ℕ) (order : Is
         negations = negations_behind plan (before i) stage;
       }
 
+  wait_same-end : wait_for plan (stages_at at_last) (end_stage plan) ≡ wait_for plan so_far (end_stage plan)
+  wait_same-end =
+      wait_at_end plan (stages_at at_last)
+      ∙ (λ i. record {
+        state = 0;
+        stage = end_stage plan;
+        count = 0;
+        mode = Any;
+        same_chain = false;
+        negations = negations_behind plan (ends_same i) (end_stage plan);
+      })
+      ∙ sym (wait_at_end plan so_far)
+
+  wait_same : (stage : ℕ) → may_follow plan so_far stage ≡ true → wait_for plan (stages_at at_last) stage ≡ wait_for plan so_far stage
+  unfolding may_follow
+  wait_same stage follows = by_test (stage == end_stage plan) refl follows where
+    by_test : (b : Bool) → (stage == end_stage plan) ≡ b → (if b then may_end plan so_far else may_come plan so_far stage) ≡ true
+        → wait_for plan (stages_at at_last) stage ≡ wait_for plan so_far stage
+    by_test true is follows =
+        subst (λ s. wait_for plan (stages_at at_last) s ≡ wait_for plan so_far s) (sym (eqb-true stage (end_stage plan) is)) wait_same-end
+    by_test false is follows = wait_same-stage stage follows
+
   waits_same : waits_of plan (stages_at at_last) ≡ waits_of plan so_far
   unfolding waits_of
   waits_same =
-      ap (λ test. map (wait_for plan (stages_at at_last)) (filter test (range_with_len 0 (length plan.stages)))) (λ i stage. may_same stage i)
-      ∙ map_kept (wait_for plan (stages_at at_last)) (wait_for plan so_far) (may_follow plan so_far) wait_same (range_with_len 0 (length plan.stages))
+      ap (λ test. map (wait_for plan (stages_at at_last)) (filter test (range_with_len 0 (end_stage plan + 1)))) (λ i stage. may_same stage i)
+      ∙ map_kept (wait_for plan (stages_at at_last)) (wait_for plan so_far) (may_follow plan so_far) wait_same (range_with_len 0 (end_stage plan + 1))
 
 module _ (plan : Plan) (fit : IsCompilable plan) (so_far : List ℕ) (order : IsInOrder plan so_far) where
   -- What holds of the lists of the state holds of the list.

@@ -1,12 +1,12 @@
 -- The automaton of a plan: its states, and what each of them waits for. It is stated of whole lists: a state waits for the stages that may follow its
 -- lists. After the SIGMOD 2008 paper of Agrawal, Diao, Gyllstrom and Immerman in outline; the states are this project's own.
-use Rattle.std.specs.Prelude.{ℕ, zero, suc, Bool, true, false, ◌&&◌, ◌==◌, List, [], ◌∷◌, ◌++◌, map, filter, length, slice_get, Option, Some, None}
+use Rattle.std.specs.Prelude.{ℕ, zero, suc, ◌+◌, Bool, true, false, ◌&&◌, ◌==◌, if◌then◌else◌, List, [], ◌∷◌, ◌++◌, map, filter, length, slice_get, Option, Some, None}
 use Rattle.std.specs.List.{last_or, range_with_len}
 use Rattle.std.specs.Option.{option_map_or}
 use Rattle.cep_plan.specs.declared.plan.Plan.{Plan}
 use Rattle.cep_plan.specs.declared.plan.Contiguity.{Contiguity}
 use Rattle.cep_plan.specs.declared.plan.Contiguity.TheVariants.{Strict, Relaxed, Any}
-use Rattle.cep_plan.specs.Follow.{may_follow, is_full}
+use Rattle.cep_plan.specs.Follow.{end_stage, may_follow, is_full}
 use Rattle.cep_plan.specs.Candidate.{is_between}
 use Rattle.cep_plan.specs.Gap.{contiguity_of}
 use Rattle.nfa_compile.specs.declared.state.State.{State}
@@ -44,10 +44,16 @@ abbrev pub negations_behind : Plan → Option ℕ → ℕ → List ℕ
 negations_behind plan None stage = []
 negations_behind plan (Some last) stage = negations_between plan last stage
 
--- The wait for a stage of a list with these stages so far. It leads to the state of the list with one more event of the stage.
+-- The number of the state that a take for the stage leads to. It is that of the list with one more event of the stage. No event is taken for the end
+-- stage, so the wait for it leads to no state, which has the number 0.
+abbrev pub target_of : Plan → List ℕ → ℕ → ℕ
+target_of plan so_far stage = if stage == end_stage plan then 0 else number_of_state plan stage (count_in plan (so_far ++ stage ∷ []) stage)
+
+-- The wait for a stage, which may be the end stage, of a list with these stages so far. At the end stage its count is 0, and its mode is that which lets
+-- all events pass.
 unfoldable pub wait_for : Plan → List ℕ → ℕ → Wait
 wait_for plan so_far stage = record {
-  state = number_of_state plan stage (count_in plan (so_far ++ stage ∷ []) stage);
+  state = target_of plan so_far stage;
   stage = stage;
   count = count_in plan (so_far ++ stage ∷ []) stage;
   mode = mode_behind plan (last_or None so_far) stage;
@@ -55,9 +61,9 @@ wait_for plan so_far stage = record {
   negations = negations_behind plan (last_or None so_far) stage;
 }
 
--- The waits of a list with these stages so far: one for each stage that may follow, in order of stage.
+-- The waits of a list with these stages so far: one for each stage that may follow, in order of stage. That for the end stage, if there is one, is the last.
 unfoldable pub waits_of : Plan → List ℕ → List Wait
-waits_of plan so_far = map (wait_for plan so_far) (filter (may_follow plan so_far) (range_with_len 0 (length plan.stages)))
+waits_of plan so_far = map (wait_for plan so_far) (filter (may_follow plan so_far) (range_with_len 0 (end_stage plan + 1)))
 
 -- The state as the automaton has it: whether it has no end, whether its lists are full, and what they wait for.
 unfoldable pub took_of : Plan → State → Took

@@ -1,11 +1,12 @@
 -- The text that explains an automaton: a table of its states with their waits. The form is this project's own.
-use Rattle.std.specs.Prelude.{ℕ, ◌+◌, Bool, true, false, List, [], ◌++◌, flat_map, length, slice_get, codes, decimal}
+use Rattle.std.specs.Prelude.{ℕ, ◌+◌, Bool, true, false, ◌==◌, if◌then◌else◌, List, [], ◌++◌, flat_map, length, slice_get, codes, decimal}
 use Rattle.std.specs.List.{range_with_len}
 use Rattle.std.specs.Option.{option_map_or}
 use Rattle.cep_plan.specs.declared.plan.Plan.{Plan}
 use Rattle.cep_plan.specs.declared.plan.Negation.{Negation}
 use Rattle.cep_plan.specs.declared.plan.Contiguity.{Contiguity}
 use Rattle.cep_plan.specs.declared.plan.Contiguity.TheVariants.{Strict, Relaxed, Any}
+use Rattle.cep_plan.specs.Follow.{end_stage}
 use Rattle.nfa_compile.specs.declared.nfa.Wait.{Wait}
 use Rattle.nfa_compile.specs.declared.nfa.Took.{Took}
 use Rattle.nfa_compile.specs.declared.nfa.Nfa.{Nfa}
@@ -45,13 +46,17 @@ negation_at plan number = option_map_or negation_text (slice_get plan.negations 
 abbrev pub target_text : Plan → Wait → List ℕ
 target_text plan wait = state_text plan wait.stage wait.count (is_open_ended plan wait.stage wait.count)
 
--- which events are passed over, whether it is a step of a chain, and the negations between
-abbrev pub how_text : Plan → Wait → List ℕ
-how_text plan wait = mode_text wait.mode ++ (text_if wait.same_chain (codes " chain") ++ flat_map (negation_at plan) wait.negations)
+-- which events are passed over, and whether it is a step of a chain
+abbrev pub how_text : Wait → List ℕ
+how_text wait = mode_text wait.mode ++ text_if wait.same_chain (codes " chain")
 
--- A wait is a line: the state that a take leads to, which events are passed over, whether it is a step of a chain, and the negations between.
+-- what is waited for: a take and the state that it leads to, which events are passed over, and whether it is a step of a chain; or the end
+abbrev pub aim_text : Plan → Wait → List ℕ
+aim_text plan wait = if wait.stage == end_stage plan then codes "close" else (codes "take " ++ (target_text plan wait ++ how_text wait))
+
+-- A wait is a line: what is waited for, and the negations between.
 unfoldable pub wait_line : Plan → Wait → List ℕ
-wait_line plan wait = codes "  proceed take " ++ (target_text plan wait ++ (how_text plan wait ++ codes "\n"))
+wait_line plan wait = codes "  proceed " ++ (aim_text plan wait ++ (flat_map (negation_at plan) wait.negations ++ codes "\n"))
 
 abbrev pub wait_lines : Plan → List Wait → List ℕ
 wait_lines plan waits = flat_map (wait_line plan) waits

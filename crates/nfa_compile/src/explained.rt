@@ -109,13 +109,25 @@ fn put_target(out: &mut String, plan: &Plan, wait: &Wait) -> Result<(), NoMemory
     put_state(out, plan, wait.stage, wait.count, open_ended)
 }
 
-/// Adds which events are passed over, whether the wait is a step of a chain, and the negations between.
-fn put_how(out: &mut String, plan: &Plan, wait: &Wait) -> Result<(), NoMemory>
-    ensures { OnOk result (string_bytes out.new ≡ string_bytes out.old ++ spec.how_text plan.now wait.now) }
+/// Adds which events are passed over, and whether the wait is a step of a chain.
+fn put_how(out: &mut String, wait: &Wait) -> Result<(), NoMemory>
+    ensures { OnOk result (string_bytes out.new ≡ string_bytes out.old ++ spec.how_text wait.now) }
 {
     out.push_str(mode_text(wait.mode))?;
-    put_if(out, wait.same_chain, " chain")?;
-    put_negations(out, plan, wait.negations.as_slice())
+    put_if(out, wait.same_chain, " chain")
+}
+
+/// Adds what is waited for: a take or the end.
+fn put_aim(out: &mut String, plan: &Plan, wait: &Wait) -> Result<(), NoMemory>
+    ensures { OnOk result (string_bytes out.new ≡ string_bytes out.old ++ spec.aim_text plan.now wait.now) }
+{
+    if wait.stage as usize == plan.stages.len() {
+        out.push_str("close")?;
+        return Ok(());
+    }
+    out.push_str("take ")?;
+    put_target(out, plan, wait)?;
+    put_how(out, wait)
 }
 
 /// Adds the line of a wait.
@@ -123,9 +135,9 @@ fn put_how(out: &mut String, plan: &Plan, wait: &Wait) -> Result<(), NoMemory>
 fn put_wait(out: &mut String, plan: &Plan, wait: &Wait) -> Result<(), NoMemory>
     ensures { OnOk result (string_bytes out.new ≡ string_bytes out.old ++ spec.wait_line plan.now wait.now) }
 {
-    out.push_str("  proceed take ")?;
-    put_target(out, plan, wait)?;
-    put_how(out, plan, wait)?;
+    out.push_str("  proceed ")?;
+    put_aim(out, plan, wait)?;
+    put_negations(out, plan, wait.negations.as_slice())?;
     out.push_str("\n")?;
     Ok(())
 }
@@ -186,7 +198,8 @@ fn put_table(out: &mut String, nfa: &Nfa, plan: &Plan) -> Result<(), NoMemory>
 /// The text that explains the automaton of the plan.
 ///
 /// The first line has the number of states. The waits of the start follow, and then each state with its waits, one a line:
-/// the state that a take leads to, with `+` where it has no end, which events are passed over, and the negations between.
+/// the state that a take leads to, with `+` where it has no end, and which events are passed over; or that it is the end that is waited for;
+/// and then the negations between.
 #[tactic(auto, unfolding(crate::specs::Explained::explained))]
 pub fn explain(alloc: Global, nfa: &Nfa, plan: &Plan) -> Result<Text, NoMemory>
     requires { nfa.now ≡ automaton_of plan.now }

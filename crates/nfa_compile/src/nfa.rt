@@ -21,7 +21,7 @@ pub struct Took {
     pub count: u32,
     /// Whether its lists may also have more events of the stage: it is the last state of a loop without an end.
     pub open_ended: bool,
-    /// Whether its lists are matches.
+    /// Whether its lists are full. None is where a negation closes the pattern.
     pub full: bool,
     /// What its lists wait for, in order of stage.
     pub proceed: WaitList,
@@ -29,10 +29,10 @@ pub struct Took {
 
 pub type TookList = Sequence<Took>;
 
-/// What a list waits for: an event of a stage.
+/// What a list waits for: an event of a stage, or the end. The wait for the end has as its stage the number of stages, and leads to no state: its state and its count are 0.
 #[derive(Debug, Drop)]
 pub struct Wait {
-    /// The number of the state that a take leads to.
+    /// The number of the state that a take leads to, from 1.
     pub state: u16,
     /// The stage of that state.
     pub stage: u16,

@@ -1,8 +1,8 @@
 //! Which stage may come behind a state.
-ghost use Rattle.std.specs.Prelude.{◌≡◌, ◌≤◌, ◌+◌, IfSome, Some};
+ghost use Rattle.std.specs.Prelude.{◌≡◌, ◌≤◌, ◌<◌, ◌+◌, length, IfSome, Some};
 ghost use Rattle.std.specs.List.{last_or};
 ghost use Rattle.std.specs.Prelude.{None};
-ghost use Rattle.cep_plan.specs.Follow.{all_optional, is_below, has_room, has_enough, may_follow_last, may_follow, is_full};
+ghost use Rattle.cep_plan.specs.Follow.{all_optional, is_below, has_room, has_enough, may_follow_last, end_stage, is_closing, may_follow, is_full_at, is_full};
 ghost use Rattle.nfa_compile.specs.State.{stages_at, stages_behind};
 ghost use Rattle.nfa_compile.specs.Passing.{first_behind, optional_at};
 
@@ -121,20 +121,58 @@ pub fn comes_next(plan: &Plan, reached: Option<State>, stage: u16, passable: boo
     }
 }
 
-/// Whether the stage is one of the plan's that may come first, or behind a state.
+/// Whether the stage of the plan may come first, or behind a state.
+#[tactic(auto, using(crate::proofs::EndLaws::follows_inside))]
 pub fn may_come(plan: &Plan, reached: Option<State>, stage: u16, passable: bool) -> bool
+    requires inside { stage < length plan.now.stages }
     requires reached { IfSome reached (λ s. 1 ≤ s.count) }
     requires passable { passable ≡ all_optional plan.now (first_behind reached) stage }
     ensures { result ≡ may_follow plan.now (stages_behind reached) stage }
 {
-    (stage as usize) < plan.stages.len() && comes_next(plan, reached, stage, passable)
+    comes_next(plan, reached, stage, passable)
+}
+
+/// Whether a negation closes the pattern.
+fn is_closing(plan: &Plan) -> bool
+    ensures { result ≡ is_closing plan.now }
+{
+    let stages = plan.stages.len();
+    for negation in plan.negations.as_slice() {
+        if negation.after as usize + 1 == stages {
+            return true;
+        }
+    }
+    false
+}
+
+/// Whether the end may come behind the state. It never comes first.
+#[tactic(auto, using(crate::proofs::EndLaws::follows_end, crate::proofs::CountLaws::last_same))]
+pub fn may_end(plan: &Plan, reached: Option<State>) -> bool
+    requires { IfSome reached (λ s. 1 ≤ s.count) }
+    ensures { result ≡ may_follow plan.now (stages_behind reached) (end_stage plan.now) }
+{
+    match reached {
+        None => false,
+        Some(state) => {
+            state.stage as usize + 1 == plan.stages.len()
+                && is_filled(plan, state)
+                && is_closing(plan)
+        }
+    }
+}
+
+/// Whether the state has as many events as its stage needs, and all later stages are optional.
+fn has_all(plan: &Plan, state: State) -> bool
+    ensures { result ≡ is_full_at plan.now (stages_at state) state.stage }
+{
+    is_filled(plan, state) && are_optional(plan, state.stage as usize + 1, plan.stages.len())
 }
 
 /// Whether the lists of the state are full.
-#[tactic(auto, unfolding(cep_plan::specs::Follow::is_full))]
+#[tactic(auto, using(crate::proofs::CountLaws::full_at))]
 pub fn is_complete(plan: &Plan, state: State) -> bool
     requires { 1 ≤ state.count }
     ensures { result ≡ is_full plan.now (stages_at state) }
 {
-    is_filled(plan, state) && are_optional(plan, state.stage as usize + 1, plan.stages.len())
+    !is_closing(plan) && has_all(plan, state)
 }

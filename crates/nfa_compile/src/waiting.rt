@@ -1,15 +1,15 @@
 //! What a state waits for.
-ghost use Rattle.std.specs.Prelude.{◌≡◌, ◌≤◌, ◌++◌, ◌∷◌, [], IfSome, IfOk, OnOk, length, map, filter};
+ghost use Rattle.std.specs.Prelude.{◌≡◌, ◌≤◌, ◌<◌, ◌++◌, ◌∷◌, [], IfSome, IfOk, OnOk, length, map, filter};
 ghost use Rattle.std.specs.List.{sum_by, last_or};
 ghost use Rattle.cep_plan.specs.Candidate.{is_between};
 ghost use Rattle.cep_plan.specs.Gap.{contiguity_of};
 ghost use Rattle.nfa_compile.specs.State.{greatest_count, stages_behind, states_before};
 ghost use Rattle.nfa_compile.specs.Passing.{first_behind};
-ghost use Rattle.cep_plan.specs.Follow.{all_optional, may_follow};
+ghost use Rattle.cep_plan.specs.Follow.{all_optional, end_stage, may_follow};
 ghost use Rattle.nfa_compile.specs.Automaton as spec;
 
 use crate::nfa::{Wait, WaitList};
-use crate::reach::{first_behind, last_stage, may_come, stays_open};
+use crate::reach::{first_behind, last_stage, may_come, may_end, stays_open};
 use crate::state::{State, count_behind, states_before_next};
 use cep_event::{NoMemory, NumberList};
 use cep_plan::{Contiguity, Plan};
@@ -116,6 +116,7 @@ fn wait_for(
     stage: u16,
     before: u32,
 ) -> Result<Wait, NoMemory>
+    requires inside { stage < length plan.now.stages }
     requires before { before ≡ states_before plan.now stage }
     requires states { sum_by greatest_count plan.now.stages ≤ 1024 }
     requires negations { length plan.now.negations ≤ 64 }
@@ -145,6 +146,7 @@ fn add_wait(
     passable: bool,
     before: u32,
 ) -> Result<(), NoMemory>
+    requires inside { stage < length plan.now.stages }
     requires states { sum_by greatest_count plan.now.stages ≤ 1024 }
     requires negations { length plan.now.negations ≤ 64 }
     requires reached { IfSome reached (λ s. 1 ≤ s.count) }
@@ -159,7 +161,46 @@ fn add_wait(
     Ok(())
 }
 
-/// What is waited for behind a state, or before the first event, in order of stage.
+/// The wait for the end.
+#[tactic(auto, using(crate::proofs::EndLaws::wait_at_end))]
+fn end_wait(alloc: Global, plan: &Plan, reached: Option<State>) -> Result<Wait, NoMemory>
+    requires stages { length plan.now.stages ≤ 64 }
+    requires negations { length plan.now.negations ≤ 64 }
+    requires reached { IfSome reached (λ s. 1 ≤ s.count) }
+    ensures { IfOk result (λ made. made ≡ spec.wait_for plan.now (stages_behind reached) (end_stage plan.now)) }
+{
+    let stage = plan.stages.len() as u16;
+    let negations = negations_behind(alloc, plan, last_stage(reached), stage)?;
+    Ok(Wait {
+        state: 0,
+        stage,
+        count: 0,
+        mode: Contiguity::Any,
+        same_chain: false,
+        negations,
+    })
+}
+
+/// Adds the wait for the end, where it may come.
+fn add_end(
+    alloc: Global,
+    plan: &Plan,
+    waits: &mut WaitList,
+    reached: Option<State>,
+) -> Result<(), NoMemory>
+    requires stages { length plan.now.stages ≤ 64 }
+    requires negations { length plan.now.negations ≤ 64 }
+    requires reached { IfSome reached (λ s. 1 ≤ s.count) }
+    ensures { OnOk result (waits.new ≡ waits.old
+        ++ map (spec.wait_for plan.now (stages_behind reached)) (filter (may_follow plan.now (stages_behind reached)) (end_stage plan.now ∷ []))) }
+{
+    if may_end(plan, reached) {
+        waits.push(end_wait(alloc, plan, reached)?)?;
+    }
+    Ok(())
+}
+
+/// What is waited for behind a state, or before the first event, in order of stage, and then the end.
 #[tactic(auto, using(crate::proofs::RangeLaws::filter_range_end), unfolding(crate::specs::Automaton::waits_of))]
 pub fn waits_of(alloc: Global, plan: &Plan, reached: Option<State>) -> Result<WaitList, NoMemory>
     requires stages { length plan.now.stages ≤ 64 }
@@ -178,5 +219,6 @@ pub fn waits_of(alloc: Global, plan: &Plan, reached: Option<State>) -> Result<Wa
         passable = stays_open(plan, from, stage, passable);
         before = states_before_next(plan, stage, before);
     }
+    add_end(alloc, plan, &mut waits, reached)?;
     Ok(waits)
 }

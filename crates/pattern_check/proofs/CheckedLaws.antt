@@ -23,12 +23,12 @@ use Rattle.pattern_rules.specs.First.{place_if}
 use Rattle.pattern_rules.specs.Bounds.{is_negated, bounds_of, states_within, states_of}
 use Rattle.pattern_rules.specs.Named.{is_type, type_number, opener_number}
 use Rattle.pattern_rules.specs.Stages.{unknown_type, bad_times, broken_in_stages, too_many_states}
-use Rattle.pattern_rules.specs.Whole.{bad_within, skip_name, is_positive_one}
+use Rattle.pattern_rules.specs.Whole.{bad_limit, skip_name, is_positive_one}
 use Rattle.pattern_rules.specs.Rules.{fault_with}
 use Rattle.pattern_check.specs.Numbers.{times, is_positive, stages_before, of_number}
 use Rattle.pattern_check.specs.Plan.{type_of, types_of, stage_of, stages_of, negation_of, negations_of, limit_of, skip_of, plan_with}
 use Rattle.pattern_check.specs.Checked.{is_below, has_bounds, states_up_to, skips_to_stage, is_limit, IsChecked}
-use Rattle.pattern_check.proofs.KeptRules.{kept, few_stages}
+use Rattle.pattern_check.proofs.KeptRules.{first_none, second_none, kept, few_stages}
 use Rattle.pattern_check.proofs.ListLaws.{both, all_kept, all_made, sum_made, place_found}
 use Rattle.pattern_check.proofs.FromLaws.{from_none_at}
 use Rattle.pattern_check.proofs.AfterLaws.{falls, afters_known}
@@ -80,8 +80,8 @@ both_lengths f g openers h =
     double true = refl
     double false = refl
 
-limit_kept : (within : Option PlacedNumber) → bad_within within ≡ None → is_limit (limit_of within) ≡ true
-unfolding bad_within
+limit_kept : (limit : Option PlacedNumber) → bad_limit limit ≡ None → is_limit (limit_of limit) ≡ true
+unfolding bad_limit
 limit_kept None e = refl
 limit_kept (Some n) e =
     let so = not_broken (nat_lt n.value 1 || nat_lt 4611686018427387904 n.value) n.place e in
@@ -192,6 +192,7 @@ module _ (fields : List Field) (file : File) (formed : IsWellFormed file) (sound
         (afters_known file.openers (negation_of fields file) (behind_is fields file) (kept fields file sound 3 (omega arith))
         (length (stages_of fields file)) stage_count
         (some_made (stage_of fields file) file.openers formed.begins)) file.openers);
-    limit = limit_kept file.within (kept fields file sound 17 (omega arith));
+    limit = limit_kept file.within (first_none (bad_limit file.within) (bad_limit file.within_gap) (kept fields file sound 17 (omega arith)));
+    gap = limit_kept file.within_gap (second_none (bad_limit file.within) (bad_limit file.within_gap) (kept fields file sound 17 (omega arith)));
     skips = skip_kept file.openers file.skip (length (stages_of fields file)) stage_count (kept fields file sound 18 (omega arith));
   }

@@ -34,7 +34,8 @@ use Rattle.pattern_check.proofs.CheckedLaws.{at_most}
 use Rattle.pattern_check.proofs.SoundLaws.{is_numbered}
 use Rattle.pattern_check.proofs.NumberedLaws.{positive_name, stage_numbered, mention_numbered}
 use Rattle.pattern_check.proofs.UntilLaws.{second_so}
-use Rattle.pattern_check.proofs.PlaceLaws.{sum_rises, made_of, one_first, kept_by_two, once, after_here, before_last, behind_fixed, open_loop}
+use Rattle.pattern_check.proofs.PlaceLaws.{sum_rises, made_of, one_first, kept_by_two, once, after_here, behind_fixed, open_loop}
+use Rattle.pattern_check.proofs.ClosingLaws.{closes, last_waits}
 use Rattle.pattern_check.proofs.ExpressionLaws.{cond_here, until_here, negation_here}
 
 abbrev counts : Opener → ℕ
@@ -158,9 +159,8 @@ module _ (file : File) (well : IsWellFormed file) (sound : fault_with (known_fie
   pub plan_placed : IsPlaced (plan_with fields file)
   unfolding stages_of negations_of broken_in_stages
   plan_placed = record {
-    before_last =
-        made_of (λ o. is_negated o.how) (negation_of fields file) (λ n. nat_lt (suc n.after) (length (stages_of fields file))) file.openers
-        (before_last fields file well sound);
+    closes = closes fields file well sound;
+    last_waits = last_waits fields file well sound;
     behind_fixed =
         made_of (λ o. is_negated o.how) (negation_of fields file) (λ n. not (is_optional (slice_get (stages_of fields file) n.after))) file.openers
         (behind_fixed fields file well sound);

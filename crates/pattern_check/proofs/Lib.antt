@@ -13,6 +13,7 @@ pub mod ExpressionLaws
 pub mod NameLaws
 pub mod UntilLaws
 pub mod PlaceLaws
+pub mod ClosingLaws
 pub mod LaterLaws
 pub mod KnownLaws
 pub mod FieldNumberLaws

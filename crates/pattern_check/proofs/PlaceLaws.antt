@@ -1,4 +1,5 @@
--- The negations of the plan of a file without a fault stand before the last stage and behind none that may be left out.
+-- The negations of the plan of a file without a fault stand behind no stage that may be left out, and before the last stage where no negation is the
+-- last opener.
 use Rattle.std.proofs.Common.{◌≡◌, ℕ, zero, suc, ◌+◌, ◌-◌, ◌≤◌, ◌<◌, ◌⊎◌, inl, inr, Bool, true, false, cond, not, ◌&&◌, List, [], ◌∷◌, ◌++◌, length, get_or, map, take, drop, fold, refl, sym, ap, subst, ◌∙◌, arith}
 use Rattle.std.specs.Prelude.{nat_lt, Option, Some, None}
 use Rattle.std.specs.List.{list_all, filter, sum_by, count_by, slice_get}
@@ -14,7 +15,7 @@ use Rattle.pattern_rules.specs.declared.role.Role.TheVariants as role
 use Rattle.pattern_rules.specs.First.{first_some, place_if}
 use Rattle.pattern_rules.specs.Role.{has}
 use Rattle.pattern_rules.specs.Bounds.{is_negated}
-use Rattle.pattern_rules.specs.Stages.{twice_quantifier, until_without_open_loop, twice_stage, negated_place, ends_with_not, behind, ends_optional, not_after_optional}
+use Rattle.pattern_rules.specs.Stages.{twice_quantifier, until_without_open_loop, twice_stage, behind, ends_optional, not_after_optional}
 use Rattle.pattern_rules.specs.Rules.{fault_with}
 use Rattle.pattern_check.specs.Numbers.{is_positive, stages_before}
 use Rattle.pattern_check.specs.Plan.{stage_of, stages_of, negation_of}
@@ -110,16 +111,9 @@ module _ (openers : List Opener) (begins : begins_once openers ≡ true) (once :
   pub stages_here : (k : ℕ) (d : Opener) → k < length openers → stages_before openers (get_or openers k d).name.text ≡ before k
   stages_here k d h = ap (λ (n : ℕ). count_by is_positive (take n openers)) (own_place openers k d h once)
 
-  last_positive : (d : Opener) → 1 ≤ length openers → negated_place (slice_get openers (length openers - 1)) ≡ None
-      → is_negated (get_or openers (length openers - 1) d).how ≡ false
-  last_positive d some e =
-      let there = got openers (length openers - 1) d (omega arith) in
-      not_broken (is_negated (get_or openers (length openers - 1) d).how) (get_or openers (length openers - 1) d).name.place (sym (ap negated_place there) ∙ e)
-
   pub more_come : (k : ℕ) (d : Opener) → k < length openers → is_negated (get_or openers k d).how ≡ true
-      → negated_place (slice_get openers (length openers - 1)) ≡ None → before k < count_by is_positive openers
-  more_come k d h e ends =
-      let last = last_positive d (omega arith) ends in
+      → is_negated (get_or openers (length openers - 1) d).how ≡ false → before k < count_by is_positive openers
+  more_come k d h e last =
       let earlier = differ_so (λ (o : Opener). is_negated o.how) openers k (length openers - 1) d e last (omega arith) in
       let more = sum_by_more (λ (x : Opener). cond (is_positive x) 1 0) openers (length openers - 1) d (omega arith) in
       let one = counts_one (get_or openers (length openers - 1) d) last in
@@ -190,11 +184,11 @@ module _ (fields : List Field) (file : File) (formed : IsWellFormed file) (sound
   after_here k d h = behind_is fields file (get_or file.openers k d) ∙ ap (λ (n : ℕ). n - 1) (stages_here file.openers formed.begins once k d h)
 
   pub before_last : (k : ℕ) (d : Opener) → k < length file.openers → is_negated (get_or file.openers k d).how ≡ true
+      → is_negated (get_or file.openers (length file.openers - 1) d).how ≡ false
       → nat_lt (suc (negation_of fields file (get_or file.openers k d)).after) (length (stages_of fields file)) ≡ true
-  unfolding ends_with_not
-  before_last k d h e =
+  before_last k d h e last =
       let one = one_first file.openers formed.begins once k d h e in
-      let more = more_come file.openers formed.begins once k d h e (kept fields file sound 4 (omega arith)) in
+      let more = more_come file.openers formed.begins once k d h e last in
       below (suc (negation_of fields file (get_or file.openers k d)).after) (length (stages_of fields file))
       (omega (arith, after_here k d h, length-filter is_positive file.openers, stage_count fields file formed sound))
 

@@ -41,7 +41,7 @@ skips_to_stage stages (ToFirst stage) = nat_lt stage stages
 skips_to_stage stages (ToLast stage) = nat_lt stage stages
 skips_to_stage stages _ = true
 
--- the time limit is from 1 to 2 ^ 62
+-- a time limit is from 1 to 2 ^ 62
 abbrev pub is_limit : Option ℕ → Bool
 is_limit None = true
 is_limit (Some limit) = nat_le 1 limit && nat_le limit 4611686018427387904
@@ -64,4 +64,5 @@ pub record IsChecked (plan : Plan) : Type 0 where
   pub after : never_falls 0 plan.negations ≡ true
   pub afters : list_all (λ n. nat_lt n.after (length plan.stages)) plan.negations ≡ true
   pub limit : is_limit plan.within ≡ true
+  pub gap : is_limit plan.within_gap ≡ true
   pub skips : skips_to_stage (length plan.stages) plan.skip ≡ true

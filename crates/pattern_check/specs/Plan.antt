@@ -119,6 +119,8 @@ plan_with fields file = record {
   stages = stages_of fields file;
   negations = negations_of fields file;
   within = limit_of file.within;
+  within_gap = limit_of file.within_gap;
+  by = None;
   skip = skip_of file.openers file.skip;
   select = select_of fields file.openers file.select;
 }

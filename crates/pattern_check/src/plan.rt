@@ -14,10 +14,10 @@ use cep_syntax::{File, Opener, PlacedNumber, SkipDecl, SynExpr, SynExprList};
 use pattern_rules::KnownFields;
 use std::alloc::Global;
 
-fn limit_of(within: Option<PlacedNumber>) -> Option<u64>
-    ensures { result ≡ spec.limit_of within }
+fn limit_of(limit: Option<PlacedNumber>) -> Option<u64>
+    ensures { result ≡ spec.limit_of limit }
 {
-    match within {
+    match limit {
         None => None,
         Some(number) => Some(number.value),
     }
@@ -87,6 +87,8 @@ pub fn plan_with(alloc: Global, fields: &KnownFields, file: &File) -> Result<Pla
         stages,
         negations,
         within: limit_of(file.within),
+        within_gap: limit_of(file.within_gap),
+        by: None,
         skip: skip_of(openers, &file.skip),
         select,
     })

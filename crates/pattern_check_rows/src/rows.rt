@@ -83,6 +83,38 @@ fn declarations_and_stages(rt: HostRuntime) -> Result<(), Fail> {
             "code 14 at 57",
         ),
         (
+            "event A(); pattern begin(\"a\").of(A).notFollowedBy(\"x\").of(A);",
+            "code 14 at 50",
+        ),
+        (
+            "event A(); pattern begin(\"a\").of(A).notFollowedBy(\"x\").of(A).within(10);",
+            "ok 1 1",
+        ),
+        (
+            "event A(); pattern begin(\"a\").of(A).notFollowedBy(\"x\").of(A).withinGap(10);",
+            "ok 1 1",
+        ),
+        (
+            "pattern begin(\"a\").notNext(\"x\").notFollowedBy(\"y\").within(10).withinGap(5);",
+            "ok 1 2",
+        ),
+        (
+            "event A(); pattern begin(\"a\").notNext(\"x\").within(5);",
+            "code 14 at 38",
+        ),
+        (
+            "event A(); pattern begin(\"a\").notNext(\"x\").withinGap(5);",
+            "code 14 at 38",
+        ),
+        (
+            "pattern begin(\"a\").notFollowedBy(\"x\").notNext(\"y\").within(10);",
+            "code 14 at 46",
+        ),
+        (
+            "pattern begin(\"a\").optional().notFollowedBy(\"x\").within(10);",
+            "code 15 at 44",
+        ),
+        (
             "event A(); pattern begin(\"a\").notNext(\"x\").notFollowedBy(\"y\").next(\"b\");",
             "ok 2 2",
         ),
@@ -274,6 +306,28 @@ fn names_limits_and_skips(rt: HostRuntime) -> Result<(), Fail> {
             "pattern begin(\"a\").within(4611686018427387905);",
             "code 27 at 26",
         ),
+        ("pattern begin(\"a\").withinGap(0);", "code 27 at 29"),
+        (
+            "pattern begin(\"a\").withinGap(4611686018427387904);",
+            "ok 1 0",
+        ),
+        (
+            "pattern begin(\"a\").within(5).withinGap(4611686018427387905);",
+            "code 27 at 39",
+        ),
+        (
+            "pattern begin(\"a\").within(5).withinGap(0);",
+            "code 27 at 39",
+        ),
+        (
+            "pattern begin(\"a\").within(0).withinGap(0);",
+            "code 27 at 26",
+        ),
+        (
+            "pattern begin(\"a\").notFollowedBy(\"x\").within(0);",
+            "code 27 at 45",
+        ),
+        ("pattern begin(\"a\").withinGap(5).within(8);", "not read"),
         (
             "pattern begin(\"a\"); skip to_first(\"b\");",
             "code 28 at 34",

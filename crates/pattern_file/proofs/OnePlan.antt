@@ -4,7 +4,7 @@ use Rattle.std.specs.Prelude.{Ok, Err, Result}
 use Rattle.cep_plan.specs.declared.plan.Plan.{Plan}
 use Rattle.cep_print.specs.File.{printed}
 use Rattle.cep_syntax.specs.declared.fault.SyntaxFault.{SyntaxFault}
-use Rattle.cep_syntax.specs.declared.fault.SyntaxFault.TheVariants.{NoMemory, Bad}
+use Rattle.cep_syntax.specs.declared.fault.SyntaxFault.TheVariants.{Bad}
 use Rattle.cep_syntax.specs.declared.file.File.{File}
 use Rattle.pattern_rules.specs.declared.rule.Fault.{Fault}
 use Rattle.pattern_rules.specs.Rules.{fault_of}

@@ -14,7 +14,7 @@ use Rattle.pattern_rules.specs.Declarations.{twice_type, field_kinds}
 use Rattle.pattern_rules.specs.Stages.{broken_in_stages, twice_stage, ends_with_not, not_after_optional, too_many_stages, too_many_states}
 use Rattle.pattern_rules.specs.Mentioned.{broken_by_mention}
 use Rattle.pattern_rules.specs.Kinds.{kind_clash}
-use Rattle.pattern_rules.specs.Whole.{bad_within, skip_name}
+use Rattle.pattern_rules.specs.Whole.{has_limit, bad_within, skip_name}
 
 -- the rules in order, with their codes
 abbrev pub rules : List (ℕ × Rule)
@@ -48,11 +48,11 @@ broken_by file fields rule.TwiceType = twice_type file.types
 broken_by file fields rule.FieldKinds = field_kinds fields file.types
 broken_by file fields (rule.Stage asked) = broken_in_stages asked file.types file.openers
 broken_by file fields rule.TwiceStage = twice_stage file.openers
-broken_by file fields rule.EndsWithNot = ends_with_not file.openers
+broken_by file fields rule.EndsWithNot = ends_with_not (has_limit file) file.openers
 broken_by file fields rule.NotAfterOptional = not_after_optional file.openers
 broken_by file fields (rule.Mention asked) = broken_by_mention asked file fields
 broken_by file fields rule.KindClash = kind_clash fields file
-broken_by file fields rule.BadWithin = bad_within file.within
+broken_by file fields rule.BadWithin = bad_within file
 broken_by file fields rule.SkipName = skip_name file.openers file.skip
 broken_by file fields rule.TooManyStages = too_many_stages file.openers
 broken_by file fields rule.TooManyStates = too_many_states file.openers

@@ -1,9 +1,12 @@
--- Rules of stages. That a pattern does not end in a negation and has no negation behind an optional stage, which modifiers may stand together and the
--- limits are this project's own.
-use Rattle.std.specs.Prelude.{ℕ, ◌+◌, ◌-◌, Bool, false, not, ◌&&◌, nat_lt, List, [], ◌∷◌, take, length, fold, Option, Some, None, if◌then◌else◌}
+-- Rules of stages. That a pattern ends in a negation only where it is a `notFollowedBy` and the time is limited is the manual's, but for the limit
+-- between neighbouring events, which is this project's own. So are that no negation stands behind an optional stage, which modifiers may stand
+-- together, and the limits of numbers.
+use Rattle.std.specs.Prelude.{ℕ, ◌+◌, ◌-◌, Bool, true, false, not, ◌&&◌, nat_lt, List, [], ◌∷◌, take, length, fold, Option, Some, None, if◌then◌else◌}
 use Rattle.std.specs.List.{sum_by, slice_get}
 use Rattle.cep_reading.specs.declared.name.Name.{Name}
 use Rattle.cep_syntax.specs.declared.file.TypeDecl.{TypeDecl}
+use Rattle.cep_syntax.specs.declared.file.OpenKind.{OpenKind}
+use Rattle.cep_syntax.specs.declared.file.OpenKind.TheVariants as how
 use Rattle.cep_syntax.specs.declared.file.Opener.{Opener}
 use Rattle.pattern_rules.specs.declared.role.Role.TheVariants as role
 use Rattle.pattern_rules.specs.declared.stage.StageRule.{StageRule}
@@ -61,13 +64,18 @@ broken_in_stages asked types openers = first_some (broken_in_stage asked types) 
 unfoldable pub twice_stage : List Opener → Option ℕ
 twice_stage openers = first_numbered (λ k o. place_if (is_stage (take k openers) o.name.text) o.name.place) openers
 
--- the last one is negated
-abbrev pub negated_place : Option Opener → Option ℕ
-negated_place None = None
-negated_place (Some o) = place_if (is_negated o.how) o.name.place
+-- What may not stand last: `notNext`, and without a limit of time `notFollowedBy` too, since no other event would end its wait.
+abbrev pub may_not_end : Bool → OpenKind → Bool
+may_not_end is_limited how.NotNext = true
+may_not_end is_limited how.NotFollowedBy = not is_limited
+may_not_end is_limited _ = false
 
-unfoldable pub ends_with_not : List Opener → Option ℕ
-ends_with_not openers = negated_place (slice_get openers (length openers - 1))
+abbrev pub wrong_end : Bool → Option Opener → Option ℕ
+wrong_end is_limited None = None
+wrong_end is_limited (Some o) = place_if (may_not_end is_limited o.how) o.name.place
+
+unfoldable pub ends_with_not : Bool → List Opener → Option ℕ
+ends_with_not is_limited openers = wrong_end is_limited (slice_get openers (length openers - 1))
 
 -- whether the last positive stage is optional, from whether that before the opener is
 abbrev pub behind : Bool → Opener → Bool

@@ -12,7 +12,7 @@ pub const UNKNOWN_TYPE: u8 = 12;
 /// A stage's name, negated or not, stood before.
 pub const TWICE_STAGE: u8 = 13;
 
-/// The last stage is negated.
+/// The last stage is a `notNext`, or a `notFollowedBy` of a pattern without a time limit.
 pub const ENDS_WITH_NOT: u8 = 14;
 
 /// The last positive stage before a negation is optional.
@@ -51,7 +51,7 @@ pub const LATER_NAME: u8 = 25;
 /// An aggregate names a negated stage.
 pub const NEGATED_NAME: u8 = 26;
 
-/// The time limit is 0 or over 2^62 milliseconds.
+/// A time limit is 0 or over 2^62 milliseconds.
 pub const BAD_WITHIN: u8 = 27;
 
 /// The skip strategy names no positive stage.

@@ -19,7 +19,7 @@ use crate::stage::{StageRule, broken_in_stages};
 use crate::stages::{
     ends_with_not, not_after_optional, too_many_stages, too_many_states, twice_stage,
 };
-use crate::whole::{bad_within, skip_name};
+use crate::whole::{bad_within, has_limit, skip_name};
 use cep_event::NoMemory;
 use cep_syntax::File;
 use std::alloc::Global;
@@ -61,11 +61,11 @@ fn broken_by(
         Rule::FieldKinds => field_kinds(alloc, fields, file.types()),
         Rule::Stage(asked) => Ok(broken_in_stages(asked, file)),
         Rule::TwiceStage => Ok(twice_stage(file)),
-        Rule::EndsWithNot => Ok(ends_with_not(file.openers())),
+        Rule::EndsWithNot => Ok(ends_with_not(has_limit(file.file()), file.openers())),
         Rule::NotAfterOptional => Ok(not_after_optional(file.openers())),
         Rule::Mention(asked) => Ok(broken_by_mention(asked, file, fields)),
         Rule::KindClash => Ok(kind_clash(fields, file.file())),
-        Rule::BadWithin => Ok(bad_within(file.file().within)),
+        Rule::BadWithin => Ok(bad_within(file.file())),
         Rule::SkipName => Ok(skip_name(file.openers(), &file.file().skip)),
         Rule::TooManyStages => Ok(too_many_stages(file.openers())),
         Rule::TooManyStates => Ok(too_many_states(file.openers())),

@@ -7,7 +7,7 @@ ghost use Rattle.pattern_rules.specs.Stages as spec;
 use crate::bounds::{is_negated, states_of};
 use crate::indexed::IndexedFile;
 use crate::role::{Role, has};
-use cep_syntax::Opener;
+use cep_syntax::{OpenKind, Opener};
 
 /// How many stages a pattern may have, negated ones included.
 pub const MOST_STAGES: usize = 64;
@@ -28,13 +28,23 @@ pub fn twice_stage(file: &IndexedFile) -> Option<u32>
     None
 }
 
-fn negated_place(opener: Option<&Opener>) -> Option<u32>
-    ensures { result ≡ spec.negated_place (option_copied opener.entry) }
+fn may_not_end(is_limited: bool, how: OpenKind) -> bool
+    ensures { result ≡ spec.may_not_end is_limited how }
+{
+    match how {
+        OpenKind::NotNext => true,
+        OpenKind::NotFollowedBy => !is_limited,
+        _ => false,
+    }
+}
+
+fn wrong_end(is_limited: bool, opener: Option<&Opener>) -> Option<u32>
+    ensures { result ≡ spec.wrong_end is_limited (option_copied opener.entry) }
 {
     match opener {
         None => None,
         Some(opener) => {
-            if is_negated(opener.how) {
+            if may_not_end(is_limited, opener.how) {
                 Some(opener.name.place)
             } else {
                 None
@@ -43,12 +53,12 @@ fn negated_place(opener: Option<&Opener>) -> Option<u32>
     }
 }
 
-/// The last stage is negated.
+/// The last stage is a `notNext`, or a `notFollowedBy` where no time limit ends its wait.
 #[tactic(auto, unfolding(crate::specs::Stages::ends_with_not))]
-pub fn ends_with_not(openers: &[Opener]) -> Option<u32>
-    ensures { result ≡ spec.ends_with_not openers.now }
+pub fn ends_with_not(is_limited: bool, openers: &[Opener]) -> Option<u32>
+    ensures { result ≡ spec.ends_with_not is_limited openers.now }
 {
-    negated_place(openers.last())
+    wrong_end(is_limited, openers.last())
 }
 
 fn behind(is_behind: bool, opener: &Opener) -> bool

@@ -6,17 +6,23 @@ ghost use Rattle.pattern_rules.specs.Whole as spec;
 
 use crate::bounds::is_negated;
 use crate::named::opener_number;
-use cep_syntax::{Name, Opener, PlacedNumber, SkipDecl};
+use cep_syntax::{File, Name, Opener, PlacedNumber, SkipDecl};
+
+/// Whether the file limits the time of a match, as a whole or between neighbouring events.
+pub fn has_limit(file: &File) -> bool
+    ensures { result ≡ spec.has_limit file.now }
+{
+    file.within.is_some() || file.within_gap.is_some()
+}
 
 /// The greatest time limit, in milliseconds of event time: 2^62.
 pub const GREATEST_LIMIT: u64 = 4_611_686_018_427_387_904;
 
-/// The time limit is 0 or too great.
-#[tactic(auto, unfolding(crate::specs::Whole::bad_within))]
-pub fn bad_within(within: Option<PlacedNumber>) -> Option<u32>
-    ensures { result ≡ spec.bad_within within }
+#[tactic(auto, unfolding(crate::specs::Whole::bad_limit))]
+fn bad_limit(limit: Option<PlacedNumber>) -> Option<u32>
+    ensures { result ≡ spec.bad_limit limit }
 {
-    match within {
+    match limit {
         None => None,
         Some(number) => {
             if number.value < 1 || GREATEST_LIMIT < number.value {
@@ -25,6 +31,16 @@ pub fn bad_within(within: Option<PlacedNumber>) -> Option<u32>
                 None
             }
         }
+    }
+}
+
+/// A time limit is 0 or too great. That of the whole pattern stands first.
+pub fn bad_within(file: &File) -> Option<u32>
+    ensures { result ≡ spec.bad_within file.now }
+{
+    match bad_limit(file.within) {
+        Some(place) => Some(place),
+        None => bad_limit(file.within_gap),
     }
 }
 

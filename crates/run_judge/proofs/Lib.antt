@@ -1,6 +1,6 @@
--- which conditions ask nothing of a list, and never hold of an event; cited by the answers of `alone`
-pub mod AloneLaws
--- what is kept of a list tells the same as the list; cited by `judged_list`
+-- what is kept of a list tells the same as the list; cited by `judged_where`
 pub mod KeptLaws
--- a group's events that no list takes and that every list outlives; cited by `is_untouched`
+-- which conditions made ready are the plan's; cited by the answers of `offer`
+pub mod OfferLaws
+-- events of which no list is changed that they are no candidate of; cited by `lets_others_be`
 pub mod UntouchedLaws

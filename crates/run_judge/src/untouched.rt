@@ -1,26 +1,15 @@
-//! Events that change no run which waits for a stage, as the event alone tells.
+//! Events that change no list which waits for a stage and which they are no candidate of, as the event alone tells.
 ghost use Rattle.std.specs.Prelude.{◌≡◌, ◌&&◌, ℕ, true, false, IsTrue, List};
 ghost use Rattle.cep_plan.specs.declared.item.Taken.{Taken};
-ghost use Rattle.cep_plan.specs.Candidate.{ends_loop, is_candidate, satisfies, is_between, breaks_next, breaks_followed};
+ghost use Rattle.cep_plan.specs.Candidate.{ends_loop, satisfies, is_between, breaks_next, breaks_followed};
 ghost use Rattle.cep_plan.specs.Gap.{contiguity_of, contiguity_allows};
-ghost use Rattle.live_laws.specs.Survival.{survives, takes};
+ghost use Rattle.run_judge.specs.Offer.{LetsOthersBe};
 
-use crate::alone::never_met;
 use crate::candidate::is_of;
 use crate::gap::may_pass;
 use cep_event::Event;
 use cep_plan::{Negation, Plan};
-
-/// Whether the event is no candidate for the stage, whatever was taken before.
-#[tactic(auto, unfolding(cep_plan::specs::Candidate::is_candidate))]
-pub fn is_never_wanted(plan: &Plan, stage: u16, event: &Event) -> bool
-    ensures { IsTrue result → (list : List Taken) → is_candidate plan.now list stage event.now ≡ false }
-{
-    match plan.stages.get(stage as usize) {
-        None => true,
-        Some(declared) => { !is_of(declared.of, event) || never_met(plan, &declared.cond, event) }
-    }
-}
+use cond_ready::never_met;
 
 /// Whether the event doesn't end the loop of the stage, whatever was taken before.
 pub fn never_ends(plan: &Plan, stage: u16, event: &Event) -> bool
@@ -74,14 +63,11 @@ pub fn has_no_bar(plan: &Plan, stage: u16, event: &Event) -> bool
     true
 }
 
-/// Whether the event changes no list that waits for the stage: it isn't taken, and the list goes on waiting. It looks at no list, and where it answers false that may still be so.
-pub fn is_untouched(plan: &Plan, stage: u16, event: &Event) -> bool
-    ensures taken { IsTrue result → (list : List Taken) (position : ℕ) → takes plan.now list stage event.now position ≡ false }
-    ensures lives { IsTrue result → (list : List Taken) (position : ℕ) → survives plan.now list stage event.now position ≡ true }
+/// Whether a list that waits for the stage goes on waiting at the event where that is no candidate. It looks at no list, and where it answers false
+/// that may still be so.
+pub fn lets_others_be(plan: &Plan, stage: u16, event: &Event) -> bool
+    ensures { IsTrue result → LetsOthersBe plan.now stage event.now }
 {
-    if !is_never_wanted(plan, stage, event) {
-        return false;
-    }
     if !lets_others_pass(plan, stage) {
         return false;
     }

@@ -1,5 +1,5 @@
 -- How the parts of a step fit one another.
-use Rattle.std.proofs.Common.{◌≡◌, refl, sym, ◌∙◌, ap, subst, ℕ, ◌+◌, ◌≤◌, arith, Bool, true, List, [], ◌∷◌, ◌++◌, length, length-append, map, Some, None}
+use Rattle.std.proofs.Common.{◌≡◌, refl, sym, ◌∙◌, ap, subst, ℕ, ◌+◌, ◌≤◌, arith, List, [], ◌∷◌, ◌++◌, length, length-append, map, Some, None}
 use Rattle.std.specs.Prelude.{filter}
 use Rattle.std.specs.List.{AllByRecursion as Each}
 use Rattle.std.proofs.lemmas.List.{get_or_push}
@@ -9,7 +9,8 @@ use Rattle.cep_plan.specs.Entry.{Entry, event_at, no_event, last_entry}
 use Rattle.nfa_compile.specs.State.{IsCompilable}
 use Rattle.nfa_compile.specs.declared.nfa.Nfa.{Nfa}
 use Rattle.nfa_compile.specs.Automaton.{automaton_of}
-use Rattle.live_laws.specs.Starts.{AllApart}
+use Rattle.live_laws.specs.Starts.{AllApart, Scope}
+use Rattle.list_runs.specs.Runs.{Admits}
 use Rattle.shared_buffer.specs.Slots.{slot_at}
 use Rattle.shared_buffer.specs.Content.{Content as BufferContent}
 use Rattle.shared_buffer.specs.declared.node.Standing.{Standing}
@@ -38,8 +39,8 @@ each-taking : (Q : List Entry → Type 0) (position : ℕ) → ((w : Waiter) →
 each-taking Q position all [] = tt
 each-taking Q position all (w ∷ ws) = (all w, each-taking Q position all ws)
 
-module _ (plan : Plan) (fit : IsCompilable plan) (nfa : Nfa) (automaton : nfa ≡ automaton_of plan) (events : List Event) (starts : ℕ → Bool)
-    (content : Content) (old : BufferContent) (stands : Stands plan events starts [] content old) where
+module _ (plan : Plan) (fit : IsCompilable plan) (nfa : Nfa) (automaton : nfa ≡ automaton_of plan) (events : List Event) (scope : Scope)
+    (content : Content) (old : BufferContent) (stands : Stands plan events scope [] content old) where
   -- the runs can pass
   pub pass-can : CanPass plan events stands.waiters nfa content
   pass-can = record {
@@ -48,7 +49,7 @@ module _ (plan : Plan) (fit : IsCompilable plan) (nfa : Nfa) (automaton : nfa �
     counted = stands.counted;
     bumps = stands.bumps;
     empty = stands.empty;
-    waiting = waiters-wait plan events starts [] content old stands;
+    waiting = waiters-wait plan events scope [] content old stands;
     runs = stands.runs;
   }
 
@@ -71,10 +72,10 @@ module _ (plan : Plan) (fit : IsCompilable plan) (nfa : Nfa) (automaton : nfa �
         (subst (λ (l : List Event). HoldsLists plan (events ++ l) (both_hold (held_by (map holder_of stands.waiters)) (held_by [])) old) is stands.held)
 
     -- the takes can be put
-    pub puts-can : starts (length events) ≡ true
+    pub puts-can : Admits plan events scope row.event
         → CanPutAll plan (events ++ row.event ∷ []) (length events) key
         (filter (is_taking plan events row.event) (first_waiters plan ++ stands.waiters)) (held_by (map holder_of stands.waiters)) old
-    puts-can fresh = can_put_all plan fit events row.event starts fresh stands.waiters stands.stand old holds-now key row found at
+    puts-can admits = can_put_all plan fit events row.event scope admits stands.waiters stands.stand old holds-now key row found at
 
     abbrev takers : List Waiter
     takers = filter (is_taking plan events row.event) (first_waiters plan ++ stands.waiters)
@@ -89,7 +90,7 @@ module _ (plan : Plan) (fit : IsCompilable plan) (nfa : Nfa) (automaton : nfa �
     not_held list = (k : ℕ) → held_by (map holder_of staying) list k ≡ 0
 
     -- the runs can be begun
-    pub begin-can : (fresh : starts (length events) ≡ true) (grown : List Grown) (buffer after : BufferContent)
+    pub begin-can : (admits : Admits plan events scope row.event) (grown : List Grown) (buffer after : BufferContent)
         → (put :
         HasPutAll plan (events ++ row.event ∷ []) (length events)
         (filter (is_taking plan events row.event) (first_waiters plan ++ stands.waiters)) (held_by (map holder_of stands.waiters)) grown buffer)
@@ -97,7 +98,7 @@ module _ (plan : Plan) (fit : IsCompilable plan) (nfa : Nfa) (automaton : nfa �
         (both_hold (held_by (map holder_of (filter (goes_on plan events row.event) stands.waiters))) (held_by put.holders)) after
         → CanBeginAll plan (events ++ row.event ∷ []) nfa put.holders
         (held_by (map holder_of (filter (goes_on plan events row.event) stands.waiters))) grown after
-    begin-can fresh grown buffer after put has = record {
+    begin-can admits grown buffer after put has = record {
       fit = fit;
       automaton = automaton;
       has = has;
@@ -111,8 +112,8 @@ module _ (plan : Plan) (fit : IsCompilable plan) (nfa : Nfa) (automaton : nfa �
                 (arith, length-append events (row.event ∷ [])),
           )) takers));
       new = each-listed not_held put.holders (subst (Each not_held) (sym put.lists) (each-taking not_held (length events) (λ w k.
-          new-list plan fit events row.event starts fresh stands.waiters stands.stand w.list w.stage k staying
+          new-list plan fit events row.event scope admits stands.waiters stands.stand w.list w.stage k staying
           (Each-filter (λ (v : Waiter). AreAmong events v.list) (goes_on plan events row.event) stands.waiters
-          (among plan events starts [] content old stands))) takers));
-      apart = subst AllApart (sym put.lists) (puts-can fresh).apart;
+          (among plan events scope [] content old stands))) takers));
+      apart = subst AllApart (sym put.lists) (puts-can admits).apart;
     }

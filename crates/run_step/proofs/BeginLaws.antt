@@ -22,9 +22,8 @@ use Rattle.list_buffer.proofs.StateLaws.{front_lower}
 use Rattle.run_step.specs.declared.runs.WaitKey.{WaitKey}
 use Rattle.run_step.specs.declared.passing.Grown.{Grown}
 use Rattle.run_step.specs.declared.begun.Fresh.{Fresh}
-use Rattle.run_judge.specs.declared.gap.Last.{Last}
 use Rattle.run_judge.specs.Fate.{AreSumsOf}
-use Rattle.run_step.specs.Runs.{IsKeyOf, entry_of, takes_so_far}
+use Rattle.run_step.specs.Runs.{IsKeyOf, EndsWith, takes_so_far}
 use Rattle.run_step.specs.Beginning.{CanBegin, HasBegun}
 
 none-below : (test : ℕ → Bool) (from n : ℕ) → ((k : ℕ) → k < from + n → test k ≡ false) → count_by test (range_with_len from n) ≡ 0
@@ -79,7 +78,7 @@ module _ (plan : Plan) (events : List Event) (holder : Holder) (held : Holds) (g
         start_is = start ∙ can.grown_is.start_is;
         time_is = time ∙ can.grown_is.time_is;
       };
-      last_is = can.grown_is.last_is ∙ sym (ap (λ (l : Last). Some (entry_of l)) ends);
+      ends = subst (EndsWith events holder.list) (sym ends) can.grown_is.ends;
       sums = subst (AreSumsOf plan (taken_of events holder.list)) (sym sums) can.grown_is.sums;
     };
   }

@@ -1,8 +1,8 @@
 -- The runs between two places are those that start in a range, and end one after the other.
-use Rattle.std.proofs.Common.{◌≡◌, refl, sym, ◌∙◌, ap, subst, ℕ, zero, suc, ◌+◌, ◌-◌, ◌<◌, ◌≤◌, arith, Bool, true, false, cond, not, ◌&&◌, nat_le, nat_lt, List, [], ◌∷◌, ◌++◌, length, map, take, drop, get_or, set}
-use Rattle.std.specs.Prelude.{filter}
-use Rattle.std.specs.List.{AllByRecursion as Each}
-use Rattle.std.proofs.lemmas.Bool.{lt-ltb, le-ltb, le-leb, lt-leb, leb-true, and_right}
+use Rattle.std.proofs.Common.{◌≡◌, refl, sym, ◌∙◌, ap, subst, ℕ, zero, suc, ◌+◌, ◌-◌, ◌<◌, ◌≤◌, arith, Bool, true, false, cond, not, ◌&&◌, nat_le, nat_lt, List, [], ◌∷◌, ◌++◌, length, map, take, drop, get_or, set, ◌==◌, ◌⊎◌, inl, inr}
+use Rattle.std.specs.Prelude.{filter, ◌||◌}
+use Rattle.std.specs.List.{list_any, AllByRecursion as Each}
+use Rattle.std.proofs.lemmas.Bool.{lt-ltb, le-ltb, le-leb, lt-leb, leb-true, and_right, eq-eqb, ne_eqb, cases_order}
 use Rattle.std.proofs.lemmas.List.{map-append, drop_more}
 use Rattle.cep_event.specs.declared.event.Event.{Event}
 use Rattle.cep_plan.specs.declared.plan.Plan.{Plan}
@@ -126,46 +126,78 @@ module _ (from to : ℕ) where
   kept-all le [] = refl
   kept-all le (r ∷ runs) = ap (λ k. cond (not k) (r ∷ filter keeps runs) (filter keeps runs)) (none-one le r.start) ∙ ap (λ l. r ∷ l) (kept-all le runs)
 
-  -- ---- groups
+-- ---- the runs with one start
 
+one_start : (start p : ℕ) → is_from start (start + 1) p ≡ (p == start)
+one_start start p = by_order (cases_order p start) where
+  by_order : (p ≡ start) ⊎ ((p < start) ⊎ (start < p)) → is_from start (start + 1) p ≡ (p == start)
+  by_order (inl e) = between start (start + 1) p (omega (arith, e)) (omega (arith, e)) ∙ sym (eq-eqb p start e)
+  by_order (inr (inl h)) = before start (start + 1) p h ∙ sym (ne_eqb p start (λ e. omega (arith, e, h)))
+  by_order (inr (inr h)) = behind start (start + 1) p (omega (arith, h)) ∙ sym (ne_eqb p start (λ e. omega (arith, e, h)))
+
+module _ (start : ℕ) (runs : List Run) (first end : ℕ) (bound : first ≤ length runs) (a : Each (λ (r : Run). r.start < start) (take first runs))
+    (b : Each (λ (r : Run). start ≤ r.start) (drop first runs)) (c : Each (λ (r : Run). r.start ≤ start) (take end runs))
+    (d : Each (λ (r : Run). start < r.start) (drop end runs)) where
+  below_next : Each (λ (r : Run). r.start < start + 1) (take end runs)
+  below_next = Each-mapped (λ (r : Run). r.start ≤ start) (λ r. r.start < start + 1) (λ r h. omega (arith, h)) (take end runs) c
+
+  from_next : Each (λ (r : Run). start + 1 ≤ r.start) (drop end runs)
+  from_next = Each-mapped (λ (r : Run). start < r.start) (λ r. start + 1 ≤ r.start) (λ r h. omega (arith, h)) (drop end runs) d
+
+  pub start-order : first ≤ end
+  start-order = places runs first end start (start + 1) (omega arith) bound a from_next
+
+  pub start-cut : filter (λ (r : Run). r.start == start) runs ≡ take (end - first) (drop first runs)
+  start-cut =
+      ap (λ test. filter test runs) (λ i (r : Run). sym (one_start start r.start) i)
+      ∙ cut-runs start (start + 1) runs first (end - first) end (omega (arith, start-order)) a b below_next from_next
+
+  pub start-kept : filter (λ (r : Run). not (r.start == start)) runs ≡ take first runs ++ drop end runs
+  start-kept =
+      ap (λ test. filter test runs) (λ i (r : Run). not (sym (one_start start r.start) i))
+      ∙ kept-runs start (start + 1) runs first end start-order a b below_next from_next
+
+-- ---- groups of which some runs go
+
+module _ (goes : Run → Bool) where
   abbrev pub cut_group : Grouped → Grouped
-  cut_group group = record { stage = group.stage; runs = filter keeps group.runs }
+  cut_group group = record { stage = group.stage; runs = filter (λ run. not (goes run)) group.runs }
 
   abbrev pub cut_of : List Grouped → List Run
-  cut_of groups = map (λ (r : Staged). r.run) (filter (λ (r : Staged). is_from from to r.run.start) (in_groups groups))
+  cut_of groups = map (λ (r : Staged). r.run) (filter (λ (r : Staged). goes r.run) (in_groups groups))
 
   cut-staged : (stage : ℕ) (runs : List Run)
-      → map (λ (r : Staged). r.run) (filter (λ (r : Staged). is_from from to r.run.start) (map (staged stage) runs)) ≡ filter cuts runs
+      → map (λ (r : Staged). r.run) (filter (λ (r : Staged). goes r.run) (map (staged stage) runs)) ≡ filter goes runs
   cut-staged stage [] = refl
-  cut-staged stage (r ∷ runs) = by_test (cuts r) (cut-staged stage runs) where
-    by_test : (b : Bool) → map (λ (s : Staged). s.run) (filter (λ (s : Staged). is_from from to s.run.start) (map (staged stage) runs)) ≡ filter cuts runs
-        → map (λ (s : Staged). s.run) (cond b (staged stage r ∷ filter (λ (s : Staged). is_from from to s.run.start) (map (staged stage) runs))
-        (filter (λ (s : Staged). is_from from to s.run.start) (map (staged stage) runs))) ≡ cond b (r ∷ filter cuts runs) (filter cuts runs)
+  cut-staged stage (r ∷ runs) = by_test (goes r) (cut-staged stage runs) where
+    by_test : (b : Bool) → map (λ (s : Staged). s.run) (filter (λ (s : Staged). goes s.run) (map (staged stage) runs)) ≡ filter goes runs
+        → map (λ (s : Staged). s.run) (cond b (staged stage r ∷ filter (λ (s : Staged). goes s.run) (map (staged stage) runs))
+        (filter (λ (s : Staged). goes s.run) (map (staged stage) runs))) ≡ cond b (r ∷ filter goes runs) (filter goes runs)
     by_test true rest = ap (λ l. r ∷ l) rest
     by_test false rest = rest
 
   kept-staged : (stage : ℕ) (runs : List Run)
-      → filter (λ (r : Staged). not (is_from from to r.run.start)) (map (staged stage) runs) ≡ map (staged stage) (filter keeps runs)
+      → filter (λ (r : Staged). not (goes r.run)) (map (staged stage) runs) ≡ map (staged stage) (filter (λ run. not (goes run)) runs)
   kept-staged stage [] = refl
-  kept-staged stage (r ∷ runs) = by_test (keeps r) (kept-staged stage runs) where
-    by_test : (b : Bool) → filter (λ (s : Staged). not (is_from from to s.run.start)) (map (staged stage) runs) ≡ map (staged stage) (filter keeps runs)
-        → cond b (staged stage r ∷ filter (λ (s : Staged). not (is_from from to s.run.start)) (map (staged stage) runs))
-        (filter (λ (s : Staged). not (is_from from to s.run.start)) (map (staged stage) runs))
-        ≡ map (staged stage) (cond b (r ∷ filter keeps runs) (filter keeps runs))
+  kept-staged stage (r ∷ runs) = by_test (not (goes r)) (kept-staged stage runs) where
+    by_test : (b : Bool) → filter (λ (s : Staged). not (goes s.run)) (map (staged stage) runs) ≡ map (staged stage) (filter (λ run. not (goes run)) runs)
+        → cond b (staged stage r ∷ filter (λ (s : Staged). not (goes s.run)) (map (staged stage) runs))
+        (filter (λ (s : Staged). not (goes s.run)) (map (staged stage) runs))
+        ≡ map (staged stage) (cond b (r ∷ filter (λ run. not (goes run)) runs) (filter (λ run. not (goes run)) runs))
     by_test true rest = ap (λ l. staged stage r ∷ l) rest
     by_test false rest = rest
 
-  pub cut-first : (group : Grouped) (groups : List Grouped) → cut_of (group ∷ groups) ≡ filter cuts group.runs ++ cut_of groups
+  pub cut-first : (group : Grouped) (groups : List Grouped) → cut_of (group ∷ groups) ≡ filter goes group.runs ++ cut_of groups
   cut-first group groups =
-      let test = λ (r : Staged). is_from from to r.run.start in
+      let test = λ (r : Staged). goes r.run in
       ap (map (λ (r : Staged). r.run)) (filter-of_append test (in_group group) (in_groups groups))
       ∙ map-append (λ (r : Staged). r.run) (filter test (in_group group)) (filter test (in_groups groups))
       ∙ ap (λ l. l ++ cut_of groups) (cut-staged group.stage group.runs)
 
-  pub kept-groups : (groups : List Grouped) → in_groups (map cut_group groups) ≡ filter (λ (r : Staged). not (is_from from to r.run.start)) (in_groups groups)
+  pub kept-groups : (groups : List Grouped) → in_groups (map cut_group groups) ≡ filter (λ (r : Staged). not (goes r.run)) (in_groups groups)
   kept-groups [] = refl
   kept-groups (group ∷ groups) =
-      let test = λ (r : Staged). not (is_from from to r.run.start) in
+      let test = λ (r : Staged). not (goes r.run) in
       (λ i. sym (kept-staged group.stage group.runs) i ++ kept-groups groups i) ∙ sym (filter-of_append test (in_group group) (in_groups groups))
 
 -- ---- some runs end, and then others
@@ -228,6 +260,31 @@ pub ends_none : (plan : Plan) (events : List Event) (held : Holds) (holders : Li
     → CanEndAll plan events holders held runs buffer → HoldsLists plan events held buffer
 ends_none plan events held holders runs buffer none can = ends_all plan events held runs buffer (ap length none) (record { holders = holders; can = can })
 
+-- the runs that pass a test, from a place on
+pub next-passing : {X : Type 0} (test : X → Bool) (xs : List X) (place : ℕ) (x : X) → place < length xs → x ≡ get_or xs place x
+    → filter test (drop place xs) ≡ cond (test x) (x ∷ []) [] ++ filter test (drop (place + 1) xs)
+next-passing test xs place x lt is =
+    ap (filter test) (drop_more xs place x lt ∙ ap (λ y. y ∷ drop (place + 1) xs) (sym is)) ∙ by_test (test x) where
+      by_test : (b : Bool)
+          → cond b (x ∷ filter test (drop (place + 1) xs)) (filter test (drop (place + 1) xs)) ≡ cond b (x ∷ []) [] ++ filter test (drop (place + 1) xs)
+      by_test true = refl
+      by_test false = refl
+
+pub none-passing : {X : Type 0} (test : X → Bool) (xs : List X) (place : ℕ) → length xs ≤ place → filter test (drop place xs) ≡ []
+none-passing test [] place le = ap (filter test) (drop-nil place)
+none-passing test (x ∷ xs) zero le = absurd (omega (arith, le))
+none-passing test (x ∷ xs) (suc place) le = none-passing test xs place (omega (arith, le))
+
+-- where none passes, none goes and all stay
+pub none-goes : {X : Type 0} (test : X → Bool) (xs : List X) → list_any test xs ≡ false → (filter test xs ≡ []) × (filter (λ x. not (test x)) xs ≡ xs)
+none-goes {X = X} test [] none = (refl, refl)
+none-goes {X = X} test (x ∷ xs) none = by_test (test x) none (none-goes test xs) where
+  by_test : (b : Bool) → (b || list_any test xs) ≡ false
+      → (list_any test xs ≡ false → (filter test xs ≡ []) × (filter (λ y. not (test y)) xs ≡ xs))
+      → (cond b (x ∷ filter test xs) (filter test xs) ≡ []) × (cond (not b) (x ∷ filter (λ y. not (test y)) xs) (filter (λ y. not (test y)) xs) ≡ x ∷ xs)
+  by_test true h later = let no : true ≡ false = h in absurd cc
+  by_test false h later = let more = later h in (more.0, ap (λ l. x ∷ l) more.1)
+
 -- ---- the group at a place of groups of which those before are cut
 
 pub at_left : {X : Type 0} (f : X → X) (xs : List X) (i : ℕ) (d : X) → i < length xs → get_or (map f (take i xs) ++ drop i xs) i d ≡ get_or xs i d
@@ -235,47 +292,47 @@ at_left f [] i d lt = absurd (omega (arith, lt))
 at_left f (x ∷ xs) zero d lt = refl
 at_left f (x ∷ xs) (suc i) d lt = at_left f xs i d (omega (arith, lt))
 
-module _ (from to : ℕ) (old items : List Grouped) (place : ℕ) (group : Grouped)
-    (so_far : items ≡ map (cut_group from to) (take place old) ++ drop place old) (within : place < length old)
+module _ (goes : Run → Bool) (old items : List Grouped) (place : ℕ) (group : Grouped)
+    (so_far : items ≡ map (cut_group goes) (take place old) ++ drop place old) (within : place < length old)
     (is : group ≡ get_or items place group) where
   here : group ≡ get_or old place group
-  here = is ∙ ap (λ l. get_or l place group) so_far ∙ at_left (cut_group from to) old place group within
+  here = is ∙ ap (λ l. get_or l place group) so_far ∙ at_left (cut_group goes) old place group within
 
-  left : cut_of from to (drop place old) ≡ filter (cuts from to) group.runs ++ cut_of from to (drop (place + 1) old)
-  left = ap (cut_of from to) (drop_more old place group within ∙ ap (λ g. g ∷ drop (place + 1) old) (sym here)) ∙ cut-first from to group (drop (place + 1) old)
+  left : cut_of goes (drop place old) ≡ filter goes group.runs ++ cut_of goes (drop (place + 1) old)
+  left = ap (cut_of goes) (drop_more old place group within ∙ ap (λ g. g ∷ drop (place + 1) old) (sym here)) ∙ cut-first goes group (drop (place + 1) old)
 
   pub kill_some : (plan : Plan) (events : List Event) (held : Holds) (buffer : BufferContent)
-      → Ending plan events held (cut_of from to (drop place old)) buffer
-      → CanEndAllSome (filter (λ (run : Run). is_from from to run.start) group.runs) buffer
+      → Ending plan events held (cut_of goes (drop place old)) buffer
+      → CanEndAllSome (filter goes group.runs) buffer
   kill_some plan events held buffer ending = part_some plan events held _ _ _ buffer left ending
 
   pub kill_turn : (plan : Plan) (events : List Event) (held : Holds) (buffer new : BufferContent)
-      → Ending plan events held (cut_of from to (drop place old)) buffer
+      → Ending plan events held (cut_of goes (drop place old)) buffer
       → ((p : Plan) (es : List Event) (holders : List Holder) (hs : Holds)
-      → CanEndAll p es holders hs (filter (λ (run : Run). is_from from to run.start) group.runs) buffer → HoldsLists p es hs new)
-      → Ending plan events held (cut_of from to (drop (place + 1) old)) new
+      → CanEndAll p es holders hs (filter goes group.runs) buffer → HoldsLists p es hs new)
+      → Ending plan events held (cut_of goes (drop (place + 1) old)) new
   kill_turn plan events held buffer new ending told =
       let part = ends_part plan events held _ _ _ buffer left ending in
       part.after new (told plan events part.holders part.before part.can)
 
-  pub kill_set : (new : Grouped) → new ≡ record group { runs = filter (λ (run : Run). not (is_from from to run.start)) group.runs }
-      → set items place new ≡ map (cut_group from to) (take (place + 1) old) ++ drop (place + 1) old
-  kill_set new made = set-mapped (cut_group from to) old items place group new so_far within is made
+  pub kill_set : (new : Grouped) → new ≡ record group { runs = filter (λ (run : Run). not (goes run)) group.runs }
+      → set items place new ≡ map (cut_group goes) (take (place + 1) old) ++ drop (place + 1) old
+  kill_set new made = set-mapped (cut_group goes) old items place group new so_far within is made
 
 -- what is left at the end
-pub kill_none : (from to : ℕ) (old : List Grouped) (place : ℕ) → length old ≤ place → cut_of from to (drop place old) ≡ []
-kill_none from to [] place le = ap (cut_of from to) (drop-nil place)
-kill_none from to (g ∷ old) zero le = absurd (omega (arith, le))
-kill_none from to (g ∷ old) (suc place) le = kill_none from to old place (omega (arith, le))
+pub kill_none : (goes : Run → Bool) (old : List Grouped) (place : ℕ) → length old ≤ place → cut_of goes (drop place old) ≡ []
+kill_none goes [] place le = ap (cut_of goes) (drop-nil place)
+kill_none goes (g ∷ old) zero le = absurd (omega (arith, le))
+kill_none goes (g ∷ old) (suc place) le = kill_none goes old place (omega (arith, le))
 
-all-cut : (from to : ℕ) (old : List Grouped) (place : ℕ) → length old ≤ place
-    → map (cut_group from to) (take place old) ++ drop place old ≡ map (cut_group from to) old
-all-cut from to [] zero le = refl
-all-cut from to [] (suc place) le = refl
-all-cut from to (g ∷ old) zero le = absurd (omega (arith, le))
-all-cut from to (g ∷ old) (suc place) le = ap (λ l. cut_group from to g ∷ l) (all-cut from to old place (omega (arith, le)))
+all-cut : (goes : Run → Bool) (old : List Grouped) (place : ℕ) → length old ≤ place
+    → map (cut_group goes) (take place old) ++ drop place old ≡ map (cut_group goes) old
+all-cut goes [] zero le = refl
+all-cut goes [] (suc place) le = refl
+all-cut goes (g ∷ old) zero le = absurd (omega (arith, le))
+all-cut goes (g ∷ old) (suc place) le = ap (λ l. cut_group goes g ∷ l) (all-cut goes old place (omega (arith, le)))
 
-pub kill_runs : (from to : ℕ) (old items : List Grouped) (place : ℕ) → length old ≤ place
-    → items ≡ map (cut_group from to) (take place old) ++ drop place old
-    → in_groups items ≡ filter (λ (r : Staged). not (is_from from to r.run.start)) (in_groups old)
-kill_runs from to old items place le so_far = ap in_groups (so_far ∙ all-cut from to old place le) ∙ kept-groups from to old
+pub kill_runs : (goes : Run → Bool) (old items : List Grouped) (place : ℕ) → length old ≤ place
+    → items ≡ map (cut_group goes) (take place old) ++ drop place old
+    → in_groups items ≡ filter (λ (r : Staged). not (goes r.run)) (in_groups old)
+kill_runs goes old items place le so_far = ap in_groups (so_far ∙ all-cut goes old place le) ∙ kept-groups goes old

@@ -15,15 +15,14 @@ use Rattle.nfa_compile.proofs.AutomatonLaws.{number_after_take, each_wait}
 use Rattle.live_laws.specs.Survival.{takes as takes_now}
 use Rattle.live_laws.proofs.WaitLaws.{waits-nil}
 use Rattle.cond_sums.specs.Kept.{Summed, wanted_in, StandsFor}
-use Rattle.run_judge.specs.declared.gap.Last.{Last}
 use Rattle.match_labels.specs.Label.{Mark}
 use Rattle.run_step.specs.declared.passing.Take.{Take}
-use Rattle.run_step.specs.Runs.{Waiter, entry_of, takes_so_far}
+use Rattle.run_step.specs.Runs.{Waiter, takes_so_far}
 use Rattle.run_step.specs.Taking.{label_after, digit_after, IsTakeOf, AreTakesOf}
 use Rattle.run_step.specs.Passing.{is_taking}
 use Rattle.run_step.specs.Noting.{first_waiter, CanTakeFirst, CanTakeFirstSome, IsFirstNoted, CanBeginFirst, FirstsNoted}
 use Rattle.run_step.proofs.DigitLaws.{mark_after, takes-later}
-use Rattle.run_step.proofs.SumsLaws.{sums-taken}
+use Rattle.run_step.proofs.SumsLaws.{sums-taken, ends_taken}
 use Rattle.run_step.proofs.TakeLaws.{some_within, waits_few, got_at, count_by-all, length-range, length-mapped}
 use Rattle.run_step.proofs.WaitsLaws.{take-all}
 use Rattle.run_step.proofs.StepLaws.{filter-of_append}
@@ -38,7 +37,7 @@ module _ (plan : Plan) (events : List Event) (position : ℕ) (waiting : List Wa
   pub first_within : number < length waiting
   first_within = some_within waiting number _ can.found
 
-  pub first_few : length waiting ≤ 64
+  pub first_few : length waiting ≤ 65
   first_few = omega (arith, ap length can.waits_are, waits_few plan [], can.fit.few_stages)
 
   pub first_bump : bump ≤ position
@@ -46,15 +45,15 @@ module _ (plan : Plan) (events : List Event) (position : ℕ) (waiting : List Wa
       let most = count_by-all (λ (p : ℕ). is_partial plan events (record { stage = stage; position = p } ∷ [])) (range_with_len 0 (length events)) in
       omega (arith, can.bump_is, most, length-range 0 (length events), can.at)
 
-  pub first_is : (event : Event) (wait : Wait) → slice_get waiting number ≡ Some wait → (taken : Take)
+  pub first_is : stage < length plan.stages → (event : Event) (wait : Wait) → slice_get waiting number ≡ Some wait → (taken : Take)
       → taken.stage ≡ wait.stage → taken.state ≡ wait.state → taken.pred ≡ None → taken.version ≡ label_after waiting number wait [] 0 bump
       → taken.next_digit ≡ digit_after waiting wait 0
       → taken.start ≡ position → taken.start_ts ≡ event.ts
-      → taken.last ≡ record { stage = wait.stage; position = position } → wanted_in taken.sums ≡ wanted_in empty
+      → taken.last ≡ record { stage = wait.stage; position = position; ts = event.ts } → wanted_in taken.sums ≡ wanted_in empty
       → ((before : List Taken) (at : ℕ) → StandsFor empty plan.types before
       → StandsFor taken.sums plan.types (before ++ record { stage = wait.stage; position = at; event = event } ∷ []))
       → IsTakeOf plan (events ++ event ∷ []) position (first_waiter stage) taken
-  first_is event wait got taken named state pred version digit start time last asked told =
+  first_is known event wait got taken named state pred version digit start time last asked told =
       let both : Some wait ≡ Some (wait_for plan [] stage) = sym got ∙ can.found in
       let same : wait ≡ wait_for plan [] stage = cc in
       let name : wait.stage ≡ stage = ap (λ (w : Wait). w.stage) same ∙ wait_stage plan [] stage in
@@ -62,13 +61,13 @@ module _ (plan : Plan) (events : List Event) (position : ℕ) (waiting : List Wa
       subst (λ (p : ℕ). IsTakeOf plan (events ++ event ∷ []) p (first_waiter stage) taken) (sym can.at)
       (record {
         stage_is = named ∙ name;
-        state_is = state ∙ ap (λ (w : Wait). w.state) same ∙ sym (number_after_take plan [] stage);
+        state_is = state ∙ ap (λ (w : Wait). w.state) same ∙ sym (number_after_take plan [] stage known);
         pred_is = pred;
         version_is = version ∙ (λ i. label_after (can.waits_are i) number (same i) [] 0 (can.bump_is i)) ∙ sym (ap (λ (m : Mark). m.label) mark);
         digit_is = digit ∙ (λ i. digit_after (can.waits_are i) (same i) 0) ∙ sym (ap (λ (m : Mark). m.next) mark);
         start_is = start ∙ can.at;
         time_is = time ∙ ap (λ (e : Event). e.ts) (sym (event_here events event));
-        last_is = sym (ap (λ (l : Last). Some (entry_of l)) (last ∙ (λ i. record { stage = name i; position = can.at i })));
+        ends = ends_taken events event [] stage wait.stage position taken.last can.at name last;
         sums = sums-taken plan events event [] stage wait.stage empty taken.sums tt name asked told can.empty_is;
       }) where
         event_here : (es : List Event) (e : Event) → event_at (es ++ e ∷ []) (length es) ≡ e

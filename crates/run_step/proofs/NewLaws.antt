@@ -1,10 +1,11 @@
 -- Before the first event.
-use Rattle.std.proofs.Common.{◌≡◌, refl, sym, ◌∙◌, ap, subst, ℕ, zero, suc, ◌+◌, ◌<◌, ◌≤◌, arith, Bool, List, [], ◌∷◌, ◌++◌, length, map, get_or, take, Some}
+use Rattle.std.proofs.Common.{◌≡◌, refl, sym, ◌∙◌, ap, subst, ℕ, zero, suc, ◌+◌, ◌<◌, ◌≤◌, arith, List, [], ◌∷◌, ◌++◌, length, map, get_or, take, Some}
 use Rattle.std.proofs.lemmas.List.{append-nil, map-append, take_more}
 use Rattle.cep_plan.specs.declared.plan.Plan.{Plan}
 use Rattle.nfa_compile.specs.declared.nfa.Wait.{Wait}
 use Rattle.nfa_compile.specs.declared.nfa.Nfa.{Nfa}
 use Rattle.nfa_compile.specs.Automaton.{automaton_of, waits_of}
+use Rattle.live_laws.specs.Starts.{Scope}
 use Rattle.list_runs.specs.Runs.{StandsFor, runs_of}
 use Rattle.list_runs.proofs.StartLaws.{StandsFor-start}
 use Rattle.shared_buffer.specs.Slots.{slot_at}
@@ -25,15 +26,15 @@ no_takes : (plan : Plan) (waits : List Wait) → map (λ (w : Wait). 0) waits �
 no_takes plan [] = refl
 no_takes plan (w ∷ waits) = ap (λ l. 0 ∷ l) (no_takes plan waits)
 
-stands_new : (plan : Plan) (starts : ℕ → Bool) (nfa : Nfa) → nfa ≡ automaton_of plan → (bumps : List ℕ) → bumps ≡ map (λ (w : Wait). 0) nfa.start
+stands_new : (plan : Plan) (scope : Scope) (nfa : Nfa) → nfa ≡ automaton_of plan → (bumps : List ℕ) → bumps ≡ map (λ (w : Wait). 0) nfa.start
     → (empty : Summed) → AreSumsOf plan [] empty
-    → Stands plan [] starts [] (record { runs = []; bumps = bumps; position = 0; empty = empty }) (record { events = []; nodes = [] })
-stands_new plan starts nfa made bumps is empty none = record {
+    → Stands plan [] scope [] (record { runs = []; bumps = bumps; position = 0; empty = empty }) (record { events = []; nodes = [] })
+stands_new plan scope nfa made bumps is empty none = record {
   counted = refl;
   empty = none;
   bumps = is ∙ ap (map (λ (w : Wait). 0)) (ap (λ (n : Nfa). n.start) made ∙ start_waits plan) ∙ no_takes plan (waits_of plan []);
   waiters = [];
-  stand = subst (StandsFor plan [] starts) (sym (append-nil (runs_of plan []))) (StandsFor-start plan starts);
+  stand = subst (StandsFor plan [] scope) (sym (append-nil (runs_of plan []))) (StandsFor-start plan scope);
   runs = tt;
   ahead = [];
   one_ahead = omega arith;
@@ -45,11 +46,11 @@ stands_new plan starts nfa made bumps is empty none = record {
   };
 }
 
-pub stands_now : (plan : Plan) (starts : ℕ → Bool) (nfa : Nfa) → nfa ≡ automaton_of plan → (bumps : List ℕ) → bumps ≡ map (λ (w : Wait). 0) nfa.start
+pub stands_now : (plan : Plan) (scope : Scope) (nfa : Nfa) → nfa ≡ automaton_of plan → (bumps : List ℕ) → bumps ≡ map (λ (w : Wait). 0) nfa.start
     → (empty : Summed) → AreSumsOf plan [] empty
-    → StandsNow plan [] starts [] (record { runs = []; bumps = bumps; position = 0; empty = empty }) (record { events = []; nodes = [] })
+    → StandsNow plan [] scope [] (record { runs = []; bumps = bumps; position = 0; empty = empty }) (record { events = []; nodes = [] })
 unfolding stands_new
-stands_now plan starts nfa made bumps is empty none = record { stands = stands_new plan starts nfa made bumps is empty none; none_ahead = refl }
+stands_now plan scope nfa made bumps is empty none = record { stands = stands_new plan scope nfa made bumps is empty none; none_ahead = refl }
 
 pub zeros_more : (waits : List Wait) (i : ℕ) (wait : Wait) (before after : List ℕ) → i < length waits → before ≡ map (λ (w : Wait). 0) (take i waits)
     → after ≡ before ++ 0 ∷ [] → after ≡ map (λ (w : Wait). 0) (take (i + 1) waits)

@@ -1,5 +1,5 @@
 -- A run after an event that it lets pass or takes.
-use Rattle.std.proofs.Common.{◌≡◌, refl, sym, ◌∙◌, ap, subst, ℕ, ◌+◌, ◌<◌, ◌≤◌, ◌^◌, arith, Bool, true, false, cond, List, [], ◌∷◌, ◌++◌, length, Some}
+use Rattle.std.proofs.Common.{◌≡◌, refl, sym, ◌∙◌, ap, subst, ℕ, ◌+◌, ◌<◌, ◌≤◌, ◌^◌, arith, Bool, true, false, cond, List, [], ◌∷◌, ◌++◌, length}
 use Rattle.std.specs.List.{range_with_len}
 use Rattle.cep_event.specs.declared.event.Event.{Event}
 use Rattle.cep_plan.specs.declared.plan.Plan.{Plan}
@@ -13,9 +13,8 @@ use Rattle.match_labels.specs.Label.{Mark}
 use Rattle.match_labels.proofs.PathLaws.{mark_of-append}
 use Rattle.run_step.specs.declared.runs.Run.{Run}
 use Rattle.run_step.specs.declared.runs.WaitKey.{WaitKey}
-use Rattle.run_judge.specs.declared.gap.Last.{Last}
 use Rattle.run_judge.specs.Fate.{AreSumsOf}
-use Rattle.run_step.specs.Runs.{Waiter, holder_of, entry_of, IsRunOf}
+use Rattle.run_step.specs.Runs.{Waiter, holder_of, EndsWith, IsRunOf}
 use Rattle.run_step.specs.Passing.{is_taking}
 use Rattle.std.proofs.lemmas.List.{append-nil}
 use Rattle.nfa_compile.specs.declared.nfa.Nfa.{Nfa}
@@ -24,7 +23,7 @@ use Rattle.run_step.specs.Taking.{IsTakeOf, AreTakesOf}
 use Rattle.run_step.specs.Noting.{CanNote, IsNoted}
 use Rattle.run_step.specs.Putting.{IsHeldRun}
 use Rattle.run_step.proofs.DigitLaws.{takes-later}
-use Rattle.run_step.proofs.SumsLaws.{sums-later}
+use Rattle.run_step.proofs.SumsLaws.{sums-later, ends-later}
 use Rattle.run_step.proofs.TakeLaws.{count_by-all, length-range}
 
 module _ (plan : Plan) (events : List Event) (event : Event) (waiter : Waiter) (waiting : waits plan events waiter.list waiter.stage ≡ true) where
@@ -62,7 +61,7 @@ module _ (plan : Plan) (events : List Event) (event : Event) (waiter : Waiter) (
           start_is = start ∙ of.begins.start_is;
           time_is = time ∙ of.begins.time_is ∙ sym (ap (λ (e : Event). e.ts) (event_at-append events (event ∷ []) of.begins.first.position inside));
         };
-        last_is = of.last_is ∙ sym (ap (λ (l : Last). Some (entry_of l)) ends);
+        ends = subst (EndsWith whole waiter.list) (sym ends) (ends-later events (event ∷ []) waiter.list run.last among of.ends);
         sums = subst (AreSumsOf plan (taken_of whole waiter.list)) (sym sums) (sums-later plan events (event ∷ []) waiter.list run.sums among of.sums);
       }
 

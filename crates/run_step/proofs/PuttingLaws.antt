@@ -4,7 +4,6 @@ use Rattle.std.specs.List.{AllByRecursion as Each}
 use Rattle.cep_event.specs.declared.event.Event.{Event}
 use Rattle.cep_plan.specs.declared.plan.Plan.{Plan}
 use Rattle.cep_plan.specs.Entry.{Entry, taken_of}
-use Rattle.run_judge.specs.declared.gap.Last.{Last}
 use Rattle.run_judge.specs.Fate.{AreSumsOf}
 use Rattle.live_laws.proofs.LastLaws.{last_or-push}
 use Rattle.match_labels.specs.Label.{label_of}
@@ -26,7 +25,7 @@ use Rattle.list_buffer.proofs.PutLaws.{has_hold, can_put}
 use Rattle.run_step.specs.declared.runs.Run.{Run}
 use Rattle.run_step.specs.declared.passing.Take.{Take}
 use Rattle.run_step.specs.declared.passing.Grown.{Grown}
-use Rattle.run_step.specs.Runs.{Waiter, entry_of}
+use Rattle.run_step.specs.Runs.{Waiter, EndsWith}
 use Rattle.run_step.specs.Taking.{taking, first_of, pred_of, IsTakeOf}
 use Rattle.run_step.specs.Putting.{CanTake, CanPutAll, HasPut, grown_holder, CanEnd}
 
@@ -191,7 +190,7 @@ module _ (plan : Plan) (events : List Event) (position event : ℕ) (waiter : Wa
         parts = first_parts waiter.list end;
         start_is = start ∙ is.start_is;
         time_is = time ∙ is.time_is;
-        last_is = is.last_is ∙ sym (ap (λ (l : Last). Some (entry_of l)) ends);
+        ends = subst (EndsWith events list) (sym ends) is.ends;
         sums = subst (AreSumsOf plan (taken_of events list)) (sym sums) is.sums;
       };
     }

@@ -6,17 +6,18 @@ use Rattle.std.proofs.lemmas.Bool.{and_from}
 use Rattle.cep_event.specs.declared.event.Event.{Event}
 use Rattle.cep_plan.specs.declared.plan.Plan.{Plan}
 use Rattle.cep_plan.specs.Entry.{Entry, taken_of, entries_in, stages_of}
+use Rattle.cep_plan.specs.Follow.{end_stage}
 use Rattle.cep_plan.specs.Partial.{waits}
 use Rattle.cep_plan.proofs.LocalLaws.{AreAmong}
 use Rattle.cep_plan.proofs.FilteredLaws.{Contains-from_filter}
 use Rattle.nfa_compile.specs.State.{IsCompilable}
-use Rattle.live_laws.specs.Starts.{AllApart, begins_in}
+use Rattle.live_laws.specs.Starts.{AllApart, Scope, is_open}
 use Rattle.live_laws.proofs.GrowthLaws.{is_partial-grow}
 use Rattle.live_laws.proofs.LastLaws.{entries_in-taken_of}
 use Rattle.live_laws.proofs.MemberLaws.{Each-filter, AllApart-map, AllApart-filter, Contains-from_map, filter-map, filter-same}
-use Rattle.live_laws.proofs.PartialLaws.{stage_known}
+use Rattle.live_laws.proofs.PartialLaws.{stage_awaited}
 use Rattle.live_laws.proofs.WaitLaws.{waits-among, waits-follows}
-use Rattle.list_runs.specs.Runs.{ListRun, StandsFor, runs_of}
+use Rattle.list_runs.specs.Runs.{ListRun, StandsFor, Admits, runs_of}
 use Rattle.list_runs.proofs.StepLaws.{grown-once}
 use Rattle.shared_buffer.specs.Slots.{slot_at}
 use Rattle.shared_buffer.specs.Content.{Content as BufferContent}
@@ -81,8 +82,8 @@ Each-join : {X : Type 0} (P : X → Type 0) (xs ys : List X) → Each P xs → E
 Each-join P [] ys h k = k
 Each-join P (x ∷ xs) ys h k = (h.0, Each-join P xs ys h.1 k)
 
-module _ (plan : Plan) (fit : IsCompilable plan) (events : List Event) (event : Event) (starts : ℕ → Bool) (fresh : starts (length events) ≡ true)
-    (waiters : List Waiter) (stand : StandsFor plan events starts (runs_of plan [] ++ map (seen events) waiters)) where
+module _ (plan : Plan) (fit : IsCompilable plan) (events : List Event) (event : Event) (scope : Scope) (admits : Admits plan events scope event)
+    (waiters : List Waiter) (stand : StandsFor plan events scope (runs_of plan [] ++ map (seen events) waiters)) where
   abbrev whole : List Event
   whole = events ++ event ∷ []
 
@@ -90,13 +91,13 @@ module _ (plan : Plan) (fit : IsCompilable plan) (events : List Event) (event : 
   held = held_by (map holder_of waiters)
 
   abbrev takers : List Waiter
-  takers = filter (is_taking plan events event) (all_waiters plan events event starts fresh waiters stand)
+  takers = filter (is_taking plan events event) (all_waiters plan events event scope admits waiters stand)
 
   among : Each (λ w. AreAmong events w.list) waiters
-  among = Each-behind (λ (w : Waiter). AreAmong events w.list) (first_waiters plan) waiters (each-among plan events event starts fresh waiters stand)
+  among = Each-behind (λ (w : Waiter). AreAmong events w.list) (first_waiters plan) waiters (each-among plan events event scope admits waiters stand)
 
-  -- a list has no more runs than there are stages
-  small-held : (list : List Entry) (key : ℕ) → held list key ≤ 64
+  -- a list has no more runs than there are stages and the end stage
+  small-held : (list : List Entry) (key : ℕ) → held list key ≤ 65
   small-held list key =
       let same = λ (w : Waiter). is_list w.list list in
       let of = λ (r : ListRun). is_list (entries_in r.list) list in
@@ -107,7 +108,10 @@ module _ (plan : Plan) (fit : IsCompilable plan) (events : List Event) (event : 
       let stages : AllApart (map (λ (r : ListRun). r.stage) (map (seen events) these)) =
       AllApart-map (λ (r : ListRun). r.stage) (map (seen events) these)
       (λ a b p q e. (λ i. record { stage = e i; list = (list_is list a p ∙ sym (list_is list b q)) i })) apart in
-      let most = apart_within (length plan.stages) (map (λ (w : Waiter). w.stage) these) (subst AllApart (map-of_map (λ (r : ListRun). r.stage) (seen events) these) stages) (known these (Each-filter (λ (w : Waiter). waits plan events w.list w.stage ≡ true) same waiters (waiting waiters (Each-behind _ (first_waiters plan) waiters (each-waits plan events event starts fresh waiters stand))))) in
+      let most = apart_within (end_stage plan + 1) (map (λ (w : Waiter). w.stage) these)
+      (subst AllApart (map-of_map (λ (r : ListRun). r.stage) (seen events) these) stages)
+      (known these (Each-filter (λ (w : Waiter). waits plan events w.list w.stage ≡ true) same waiters
+      (waiting waiters (Each-behind _ (first_waiters plan) waiters (each-waits plan events event scope admits waiters stand))))) in
       let sized = length-mapped (λ (w : Waiter). w.stage) these in
       omega (arith, fewer list key waiters, most, sized, fit.few_stages) where
         same_test : (ws : List Waiter) → Each (λ w. is_list (entries_in (taken_of events w.list)) list ≡ is_list w.list list) ws
@@ -120,15 +124,15 @@ module _ (plan : Plan) (fit : IsCompilable plan) (events : List Event) (event : 
             let passed = (Contains-from_filter (λ (w : Waiter). is_list w.list list) waiters found.0 found.1).1 in
             sym (ap (λ (x : ListRun). x.list) found.2) ∙ ap (taken_of events) (is_list-same found.0.list list passed)
 
-        waiting : (ws : List Waiter) → Each (λ w. (waits plan events w.list w.stage ≡ true) × (begins_in starts w.list ≡ true)) ws
+        waiting : (ws : List Waiter) → Each (λ w. (waits plan events w.list w.stage ≡ true) × (is_open scope w.list ≡ true)) ws
             → Each (λ w. waits plan events w.list w.stage ≡ true) ws
         waiting [] h = tt
         waiting (w ∷ ws) h = (h.0.0, waiting ws h.1)
 
         known : (ws : List Waiter) → Each (λ w. waits plan events w.list w.stage ≡ true) ws
-            → Each (λ x. x < length plan.stages) (map (λ (w : Waiter). w.stage) ws)
+            → Each (λ x. x < end_stage plan + 1) (map (λ (w : Waiter). w.stage) ws)
         known [] h = tt
-        known (w ∷ ws) h = (stage_known plan (stages_of w.list) w.stage (waits-follows plan events w.list w.stage h.0), known ws h.1)
+        known (w ∷ ws) h = (stage_awaited plan (stages_of w.list) w.stage (waits-follows plan events w.list w.stage h.0), known ws h.1)
 
   -- no list so far ends at the event
   pub new-list : (front : List Entry) (stage key : ℕ) → (ws : List Waiter) → Each (λ w. AreAmong events w.list) ws
@@ -143,9 +147,9 @@ module _ (plan : Plan) (fit : IsCompilable plan) (events : List Event) (event : 
   takers-apart : AllApart (map (λ w. taking w (length events)) takers)
   takers-apart =
       AllApart-unmap (taken_of whole) (map (λ w. taking w (length events)) takers)
-      (subst AllApart (grown-are plan events event starts fresh waiters stand ∙ sym (map-of_map (taken_of whole) (λ w. taking w (length events)) takers))
-      (grown-once plan events event starts fresh (map (seen events) (all_waiters plan events event starts fresh waiters stand))
-      (all-stand plan events event starts fresh waiters stand)))
+      (subst AllApart (grown-are plan events event scope admits waiters stand ∙ sym (map-of_map (taken_of whole) (λ w. taking w (length events)) takers))
+      (grown-once plan events event scope admits (map (seen events) (all_waiters plan events event scope admits waiters stand))
+      (all-stand plan events event scope admits waiters stand)))
 
   module _ (buffer : BufferContent) (has : HoldsLists plan whole held buffer) (key : ℕ) (row : Standing)
       (found : slot_at buffer.events key ≡ Some row) (at : row.position ≡ length events) where
@@ -162,7 +166,7 @@ module _ (plan : Plan) (fit : IsCompilable plan) (events : List Event) (event : 
         }
 
     can-firsts : (ws : List Wait)
-        → Each (λ (w : Waiter). (waits plan events w.list w.stage ≡ true) × (begins_in starts w.list ≡ true))
+        → Each (λ (w : Waiter). (waits plan events w.list w.stage ≡ true) × (is_open scope w.list ≡ true))
         (map (λ wait. record { list = []; stage = wait.stage; node = 0 }) ws)
         → Each (CanTake plan whole (length events) held buffer)
         (filter (is_taking plan events event) (map (λ wait. record { list = []; stage = wait.stage; node = 0 }) ws))
@@ -181,7 +185,7 @@ module _ (plan : Plan) (fit : IsCompilable plan) (events : List Event) (event : 
       by_test false is more = more
 
     can-rest : (done rest : List Waiter) → waiters ≡ done ++ rest
-        → Each (λ w. (waits plan events w.list w.stage ≡ true) × (begins_in starts w.list ≡ true)) rest
+        → Each (λ w. (waits plan events w.list w.stage ≡ true) × (is_open scope w.list ≡ true)) rest
         → Each (CanTake plan whole (length events) held buffer) (filter (is_taking plan events event) rest)
     can-rest done [] parts h = tt
     can-rest done (w ∷ rest) parts h =
@@ -199,7 +203,7 @@ module _ (plan : Plan) (fit : IsCompilable plan) (events : List Event) (event : 
 
     can-all : Each (CanTake plan whole (length events) held buffer) takers
     can-all =
-        let both = each-waits plan events event starts fresh waiters stand in
+        let both = each-waits plan events event scope admits waiters stand in
         subst (Each (CanTake plan whole (length events) held buffer)) (sym (filter-of_append (is_taking plan events event) (first_waiters plan) waiters))
         (Each-join (CanTake plan whole (length events) held buffer) (filter (is_taking plan events event) (first_waiters plan))
         (filter (is_taking plan events event) waiters)

@@ -8,8 +8,8 @@ use Rattle.cep_plan.specs.declared.plan.Plan.{Plan}
 use Rattle.cep_plan.specs.Entry.{Entry, taken_of}
 use Rattle.cep_plan.specs.declared.item.Taken.{Taken}
 use Rattle.cep_plan.specs.History.{matches_at}
-use Rattle.live_laws.specs.Starts.{begins_in, comes_earlier}
-use Rattle.list_runs.specs.Runs.{StandsFor, runs_of}
+use Rattle.live_laws.specs.Starts.{Scope, begins_in, comes_earlier}
+use Rattle.list_runs.specs.Runs.{StandsFor, Admits, runs_of}
 use Rattle.shared_buffer.specs.Content.{Content as BufferContent}
 use Rattle.list_buffer.specs.Held.{Holder, has, held_by, both_hold}
 use Rattle.list_buffer.specs.Listed.{HoldsLists}
@@ -129,10 +129,10 @@ reordered plan events waiters runs others are moved =
       are = subst (AreRunsOf plan events (map (λ (z : Pair plan events). z.waiter) found.0)) found.2 (unzip plan events found.0);
     }
 
-stand-reordered : (plan : Plan) (events : List Event) (starts : ℕ → Bool) (waiters others : List Waiter) → IsPermutation waiters others
-    → StandsFor plan events starts (runs_of plan [] ++ map (seen events) waiters) → StandsFor plan events starts (runs_of plan [] ++ map (seen events) others)
-stand-reordered plan events starts waiters others moved stand =
-    StandsFor-moved plan events starts (runs_of plan [] ++ map (seen events) waiters) (runs_of plan [] ++ map (seen events) others)
+stand-reordered : (plan : Plan) (events : List Event) (scope : Scope) (waiters others : List Waiter) → IsPermutation waiters others
+    → StandsFor plan events scope (runs_of plan [] ++ map (seen events) waiters) → StandsFor plan events scope (runs_of plan [] ++ map (seen events) others)
+stand-reordered plan events scope waiters others moved stand =
+    StandsFor-moved plan events scope (runs_of plan [] ++ map (seen events) waiters) (runs_of plan [] ++ map (seen events) others)
     (IsPermutation-append_right (runs_of plan []) (map (seen events) waiters) (map (seen events) others)
     (IsPermutation-map (seen events) waiters others moved)) stand
 
@@ -142,8 +142,8 @@ held-reordered waiters others moved list key =
     sym (sum_by-IsPermutation (λ h. cond (has list key h) 1 0) (map holder_of waiters) (map holder_of others)
     (IsPermutation-map holder_of waiters others moved))
 
-module _ (plan : Plan) (events : List Event) (event : Event) (starts : ℕ → Bool) (fresh : starts (length events) ≡ true) (waiters : List Waiter)
-    (stand : StandsFor plan events starts (runs_of plan [] ++ map (seen events) waiters)) where
+module _ (plan : Plan) (events : List Event) (event : Event) (scope : Scope) (admits : Admits plan events scope event) (waiters : List Waiter)
+    (stand : StandsFor plan events scope (runs_of plan [] ++ map (seen events) waiters)) where
   abbrev whole : List Event
   whole = events ++ event ∷ []
 
@@ -176,11 +176,11 @@ module _ (plan : Plan) (events : List Event) (event : Event) (starts : ℕ → B
     -- put in order, the lists of the tips are the matches that end at the event
     matches-are : (made : List (List Taken)) → IsPermutation (map (λ holder. taken_of whole holder.list) (full_ones plan holders)) made
         → IsSortedBy comes_earlier made
-        → made ≡ map (taken_of whole) (filter (begins_in starts) (matches_at plan events event))
+        → made ≡ map (taken_of whole) (filter (begins_in scope.starts) (matches_at plan events event))
     matches-are made moved sorted =
-        matches_at-completed plan events event starts fresh (map (seen events) (all_waiters plan events event starts fresh waiters stand))
-        (all-stand plan events event starts fresh waiters stand) made
-        (subst (λ (l : List (List Taken)). IsPermutation l made) (sym (completed-are plan events event starts fresh waiters stand holders lists)) moved) sorted
+        matches_at-completed plan events event scope admits (map (seen events) (all_waiters plan events event scope admits waiters stand))
+        (all-stand plan events event scope admits waiters stand) made
+        (subst (λ (l : List (List Taken)). IsPermutation l made) (sym (completed-are plan events event scope admits waiters stand holders lists)) moved) sorted
 
     -- all that is held: the waiters after the step, and the tips
     held-after : HoldsLists plan whole (both_hold (held_by (map holder_of after)) (held_by (full_ones plan holders))) buffer
@@ -193,7 +193,7 @@ module _ (plan : Plan) (events : List Event) (event : Event) (starts : ℕ → B
     -- The step as a whole.
     pub has-stepped : (content : Content) (runs : List Staged) → AreRunsOf plan whole staying runs → content.position ≡ length events + 1
         → content.bumps ≡ bumps_of plan whole → AreSumsOf plan [] content.empty
-        → IsPermutation (runs ++ map fresh_run fresh_runs) content.runs → HasStepped plan events event starts [] tips content buffer
+        → IsPermutation (runs ++ map fresh_run fresh_runs) content.runs → HasStepped plan events event scope [] tips content buffer
     has-stepped content runs are counted bumps empty moved =
         let all = AreRunsOf-append plan whole staying (flat_map (waiters_of plan) holders) runs (map fresh_run fresh_runs) are begun.runs in
         let order = reordered plan whole after (runs ++ map fresh_run fresh_runs) content.runs all moved in
@@ -208,8 +208,8 @@ module _ (plan : Plan) (events : List Event) (event : Event) (starts : ℕ → B
             empty = empty;
             waiters = order.others;
             stand =
-                stand-reordered plan whole starts after order.others order.moved
-                (stands-stepped plan events event starts fresh waiters stand holders lists);
+                stand-reordered plan whole scope after order.others order.moved
+                (stands-stepped plan events event scope admits waiters stand holders lists);
             runs = order.are;
             ahead = [];
             one_ahead = omega arith;

@@ -1,5 +1,5 @@
 -- The take of a run is that of its list.
-use Rattle.std.proofs.Common.{◌≡◌, refl, sym, ◌∙◌, ap, subst, ℕ, zero, suc, ◌+◌, ◌-◌, ◌*◌, ◌^◌, ◌<◌, ◌≤◌, arith, Bool, true, false, cond, List, [], ◌∷◌, ◌++◌, length, map, get_or, Some, None}
+use Rattle.std.proofs.Common.{◌≡◌, refl, sym, ◌∙◌, ap, subst, ℕ, zero, suc, ◌+◌, ◌-◌, ◌*◌, ◌^◌, ◌<◌, ◌≤◌, arith, Bool, true, false, cond, List, [], ◌∷◌, ◌++◌, length, map, get_or, Some}
 use Rattle.std.specs.Prelude.{slice_get, filter, count_by}
 use Rattle.std.proofs.lemmas.List.Sums.{sum_by-cons}
 use Rattle.live_laws.proofs.PartialLaws.{may_grow-length}
@@ -9,21 +9,19 @@ use Rattle.cep_event.specs.declared.event.Event.{Event}
 use Rattle.cep_plan.specs.declared.plan.Plan.{Plan}
 use Rattle.cep_plan.specs.declared.item.Taken.{Taken}
 use Rattle.cep_plan.specs.Entry.{Entry, event_at, taken_at, stages_of}
-use Rattle.cep_plan.specs.Follow.{may_follow}
+use Rattle.cep_plan.specs.Follow.{end_stage, may_follow}
 use Rattle.cep_plan.proofs.LocalLaws.{AreAmong, event_at-append}
 use Rattle.nfa_compile.specs.declared.nfa.Wait.{Wait}
 use Rattle.nfa_compile.specs.declared.nfa.Nfa.{Nfa}
 use Rattle.nfa_compile.specs.Automaton.{number_of_list, wait_for, waits_of, waits_in}
 use Rattle.nfa_compile.proofs.AutomatonLaws.{number_after_take, waits_of_list}
 use Rattle.live_laws.proofs.WaitLaws.{waits-may_grow, waits-among}
-use Rattle.live_laws.proofs.LastLaws.{last_or-push}
 use Rattle.match_labels.specs.Label.{Mark, no_mark, stays, branches_off, branches_below, branches_in, step_digits, mark_behind, mark_from, mark_of}
 use Rattle.run_step.specs.declared.runs.Run.{Run}
 use Rattle.run_step.specs.declared.passing.Take.{Take}
 use Rattle.cond_sums.specs.Kept.{wanted_in, StandsFor}
-use Rattle.run_judge.specs.declared.gap.Last.{Last}
-use Rattle.run_step.specs.Runs.{Waiter, entry_of}
-use Rattle.run_step.proofs.SumsLaws.{sums-taken}
+use Rattle.run_step.specs.Runs.{Waiter}
+use Rattle.run_step.proofs.SumsLaws.{sums-taken, ends_taken}
 use Rattle.run_step.specs.Taking.{first_of, pred_of, label_after, digit_after, IsTakeOf, CanTakeRun}
 use Rattle.run_step.proofs.DigitLaws.{mark_after}
 
@@ -52,15 +50,15 @@ length-mapped f [] = refl
 length-mapped f (x ∷ xs) = let more = length-mapped f xs in omega (arith, more)
 
 -- a list waits for few stages
-pub waits_few : (plan : Plan) (so_far : List ℕ) → length (waits_of plan so_far) ≤ length plan.stages
+pub waits_few : (plan : Plan) (so_far : List ℕ) → length (waits_of plan so_far) ≤ end_stage plan + 1
 unfolding waits_of
 waits_few plan so_far =
-    let all = range_with_len 0 (length plan.stages) in
+    let all = range_with_len 0 (end_stage plan + 1) in
     omega (
       arith,
       length-mapped (wait_for plan so_far) (filter (may_follow plan so_far) all),
       length-filter (may_follow plan so_far) all,
-      length-range 0 (length plan.stages),
+      length-range 0 (end_stage plan + 1),
     )
 
 pub count_by-all : {X : Type 0} (test : X → Bool) (xs : List X) → count_by test xs ≤ length xs
@@ -72,30 +70,30 @@ count_by-all test (x ∷ xs) =
       at_most_one true n e = omega (arith, e)
       at_most_one false n e = omega (arith, e)
 
-branches_few : (plan : Plan) (so_far : List ℕ) → branches_in plan so_far ≤ length plan.stages
+branches_few : (plan : Plan) (so_far : List ℕ) → branches_in plan so_far ≤ end_stage plan + 1
 unfolding branches_below
-branches_few plan so_far = omega (arith, count_by-all (branches_off plan so_far) (range_with_len 0 (length plan.stages)), length-range 0 (length plan.stages))
+branches_few plan so_far = omega (arith, count_by-all (branches_off plan so_far) (range_with_len 0 (end_stage plan + 1)), length-range 0 (end_stage plan + 1))
 
 behind_few : (plan : Plan) (events : List Event) (list : List Entry) (mark : Mark) (next : Entry)
-    → (mark_behind plan events list mark next).next ≤ mark.next + length plan.stages
+    → (mark_behind plan events list mark next).next ≤ mark.next + (end_stage plan + 1)
 unfolding mark_behind
 behind_few plan events list mark next = by_test (stays plan (stages_of list) next.stage) where
   by_test : (b : Bool)
       → (cond {A = Mark} b (record { label = mark.label; next = mark.next + branches_in plan (stages_of list) })
-      (record { label = mark.label ++ step_digits plan events list next mark.next; next = 0 })).next ≤ mark.next + length plan.stages
+      (record { label = mark.label ++ step_digits plan events list next mark.next; next = 0 })).next ≤ mark.next + (end_stage plan + 1)
   by_test true = omega (arith, branches_few plan (stages_of list))
   by_test false = omega arith
 
 from_few : (plan : Plan) → length plan.stages ≤ 64 → (events : List Event) (list : List Entry) (mark : Mark) (later : List Entry)
-    → (mark_from plan events list mark later).next ≤ mark.next + 64 * length later
+    → (mark_from plan events list mark later).next ≤ mark.next + 65 * length later
 from_few plan stages events list mark [] = omega arith
 from_few plan stages events list mark (next ∷ later) =
     let rest = from_few plan stages events (list ++ next ∷ []) (mark_behind plan events list mark next) later in
     let one = behind_few plan events list mark next in
     omega (arith, rest, one, stages)
 
--- no list has given away more digits than 64 for each entry
-pub few_digits : (plan : Plan) → length plan.stages ≤ 64 → (events : List Event) (list : List Entry) → (mark_of plan events list).next ≤ 64 * length list
+-- no list has given away more digits than 65 for each entry
+pub few_digits : (plan : Plan) → length plan.stages ≤ 64 → (events : List Event) (list : List Entry) → (mark_of plan events list).next ≤ 65 * length list
 few_digits plan stages events list = let all = from_few plan stages events [] no_mark list in omega (arith, all)
 
 -- the element at a place
@@ -120,7 +118,7 @@ module _ (plan : Plan) (events : List Event) (event : Event) (position : ℕ) (w
   pub number_within : run.wait.number < length (waits_in nfa run.wait.state)
   number_within = some_within (waits_in nfa run.wait.state) run.wait.number _ wait_at
 
-  pub waits_within : length (waits_in nfa run.wait.state) ≤ 64
+  pub waits_within : length (waits_in nfa run.wait.state) ≤ 65
   waits_within = omega (arith, ap length waits_are, waits_few plan (stages_of waiter.list), can.fit.few_stages)
 
   among : AreAmong events waiter.list
@@ -142,16 +140,16 @@ module _ (plan : Plan) (events : List Event) (event : Event) (position : ℕ) (w
       omega (arith, can.run_is.sums.stand.taken, length-mapped (taken_at events) waiter.list, short, can.at, can.small)
 
   -- what the code has made
-  pub take_is : (wait : Wait) → slice_get (waits_in nfa run.wait.state) run.wait.number ≡ Some wait → (taken : Take)
+  pub take_is : waiter.stage < length plan.stages → (wait : Wait) → slice_get (waits_in nfa run.wait.state) run.wait.number ≡ Some wait → (taken : Take)
       → taken.stage ≡ wait.stage → taken.state ≡ wait.state → taken.pred ≡ Some run.node
       → taken.version ≡ label_after (waits_in nfa run.wait.state) run.wait.number wait run.version run.next_digit run.bump
       → taken.next_digit ≡ digit_after (waits_in nfa run.wait.state) wait run.next_digit
       → taken.start ≡ run.start → taken.start_ts ≡ run.start_ts
-      → taken.last ≡ record { stage = wait.stage; position = position } → wanted_in taken.sums ≡ wanted_in run.sums
+      → taken.last ≡ record { stage = wait.stage; position = position; ts = event.ts } → wanted_in taken.sums ≡ wanted_in run.sums
       → ((before : List Taken) (at : ℕ) → StandsFor run.sums plan.types before
       → StandsFor taken.sums plan.types (before ++ record { stage = wait.stage; position = at; event = event } ∷ []))
       → IsTakeOf plan (events ++ event ∷ []) position waiter taken
-  take_is wait found taken stage state pred version digit start time last asked told =
+  take_is known wait found taken stage state pred version digit start time last asked told =
       let both : Some wait ≡ Some (wait_for plan (stages_of waiter.list) waiter.stage) = sym found ∙ wait_at in
       let same : wait ≡ wait_for plan (stages_of waiter.list) waiter.stage = cc in
       let named : wait.stage ≡ waiter.stage = ap (λ (w : Wait). w.stage) same ∙ wait_stage plan (stages_of waiter.list) waiter.stage in
@@ -161,7 +159,7 @@ module _ (plan : Plan) (events : List Event) (event : Event) (position : ℕ) (w
       subst (λ (p : ℕ). IsTakeOf plan (events ++ event ∷ []) p waiter taken) (sym can.at)
       (record {
         stage_is = stage ∙ named;
-        state_is = state ∙ ap (λ (w : Wait). w.state) same ∙ sym (number_after_take plan (stages_of waiter.list) waiter.stage)
+        state_is = state ∙ ap (λ (w : Wait). w.state) same ∙ sym (number_after_take plan (stages_of waiter.list) waiter.stage known)
             ∙ sym (ap (number_of_list plan) (map-append (λ (e : Entry). e.stage) waiter.list (record { stage = waiter.stage; position = length events } ∷ [])));
         pred_is = pred ∙ ap Some of.node_is ∙ sym (ap (λ l. pred_of l waiter.node) of.begins.parts);
         version_is = version ∙ (λ i. label_after (waits_are i) run.wait.number (same i) (of.version_is i) (of.digit_is i) (of.bump_is i))
@@ -172,6 +170,6 @@ module _ (plan : Plan) (events : List Event) (event : Event) (position : ℕ) (w
         time_is = time ∙ of.begins.time_is ∙ sym (ap (λ (e : Event). e.ts) (event_at-append events (event ∷ []) of.begins.first.position inside))
             ∙ sym (ap (λ l. (event_at (events ++ event ∷ []) (first_of l (record { stage = waiter.stage; position = length events })).position).ts)
             of.begins.parts);
-        last_is = last_or-push None waiter.list _ ∙ sym (ap (λ (l : Last). Some (entry_of l)) (last ∙ (λ i. record { stage = named i; position = can.at i })));
+        ends = ends_taken events event waiter.list waiter.stage wait.stage position taken.last can.at named last;
         sums = sums-taken plan events event waiter.list waiter.stage wait.stage run.sums taken.sums among named asked told of.sums;
       })

@@ -1,48 +1,56 @@
--- The tips of the runs of one start: which runs have them, their order, and that repeats stand side by side.
-use Rattle.std.proofs.Common.{◌≡◌, refl, sym, ◌∙◌, ap, ℕ, ◌+◌, ◌<◌, ◌≤◌, arith, true, false, cond, List, [], ◌∷◌, ◌++◌, length, take, drop, Option, Some, None}
+-- The tips of the runs of a due: which runs have them, their order, that repeats stand side by side, and which stand among others.
+use Rattle.std.proofs.Common.{◌≡◌, refl, sym, ◌∙◌, ap, subst, ℕ, ◌<◌, arith, Bool, true, false, cond, ◌==◌, get_or, ◌⊎◌, inl, inr, List, [], ◌∷◌, ◌++◌, length, take, drop, Option, Some, None}
 use Rattle.std.specs.Prelude.{Contains, filter}
 use Rattle.std.specs.Cmp.{IsStrictWeakOrder, IsTotalOrder, nat_cmp_total}
-use Rattle.std.specs.List.{dedup, last_or, AllByRecursion as Each}
-use Rattle.std.specs.List.Sorted.{IsSortedBy, IsStrictlySortedBy}
+use Rattle.std.specs.List.{dedup, last_or, list_any, HoldsAt, AllByRecursion as Each}
+use Rattle.std.specs.List.Sorted.{IsSortedBy, IsStrictlySortedBy, IsPartitionPoint}
 use Rattle.std.specs.declared.cmp.Ordering.{Ordering}
 use Rattle.std.specs.declared.cmp.Ordering.TheVariants.{Less, Equal, Greater}
 use Rattle.std.specs.Ordering.{nat_cmp, ordering_then, is_eq}
-use Rattle.std.proofs.lemmas.Bool.{and_left, ne_eqb}
+use Rattle.std.proofs.lemmas.Bool.{and_left, ne_eqb, or_cases, cases_order}
 use Rattle.std.proofs.lemmas.Cmp.{ranked, on_total, then_total, nat_list_cmp_total, eq_by_cmp_equiv}
 use Rattle.std.proofs.lemmas.List.Kept.{IsStrictlySortedBy-dedup, Contains-dedup}
 use Rattle.std.proofs.lemmas.List.Sorted.{ranks_by}
 use Rattle.dewey_version.specs.Version.{version_cmp}
 use Rattle.nfa_compile.specs.declared.nfa.Nfa.{Nfa}
 use Rattle.live_laws.specs.Starts.{AllApart}
+use Rattle.cep_plan.proofs.SortedLaws.{Contains-first, Contains-next}
+use Rattle.live_laws.proofs.LiveLaws.{list_any-contains}
 use Rattle.live_laws.proofs.RepeatLaws.{repeats, dedup-push}
 use Rattle.list_runs.proofs.PartLaws.{filter-none, filter-front, Each-mapped}
+use Rattle.cep_plan.specs.declared.item.Due.{Due}
+use Rattle.cep_plan.specs.declared.item.Due.TheVariants.{Start}
 use Rattle.run_step.specs.declared.runs.Run.{Run}
+use Rattle.run_step.specs.Content.{is_in_due}
 use Rattle.run_step.specs.declared.runs.Tip.{Tip}
-use Rattle.run_step.specs.Showing.{is_shown, tip_cmp, comes_before, is_same_tip, repeats_last}
-use Rattle.run_step.proofs.CutLaws.{places}
+use Rattle.run_step.specs.Showing.{is_among, is_shown, tip_cmp, comes_before, is_same_tip, repeats_last}
 
--- ---- the runs of one start in a group
+-- ---- the runs of a due in a group
 
-module _ (nfa : Nfa) (start : ℕ) where
-  elsewhere : (run : Run) → (run.start ≡ start → ⊥) → is_shown nfa start run ≡ false
-  elsewhere run other = and_left _ _ (ne_eqb run.start start other)
+module _ (nfa : Nfa) (due : Due) where
+  elsewhere : (run : Run) → is_in_due due run ≡ false → is_shown nfa due run ≡ false
+  elsewhere run other = and_left _ _ other
 
-  pub shown-before : (runs : List Run) → Each (λ (run : Run). run.start < start) runs → filter (is_shown nfa start) runs ≡ []
-  shown-before runs below =
-      filter-none (is_shown nfa start) runs (Each-mapped (λ (run : Run). run.start < start) (λ run. is_shown nfa start run ≡ false)
-      (λ run lt. elsewhere run (λ e. omega (arith, lt, e))) runs below)
+  pub shown-before : (runs : List Run) → Each (λ (run : Run). is_in_due due run ≡ false) runs → filter (is_shown nfa due) runs ≡ []
+  shown-before runs none =
+      filter-none (is_shown nfa due) runs (Each-mapped (λ (run : Run). is_in_due due run ≡ false) (λ run. is_shown nfa due run ≡ false) elsewhere runs none)
 
-  pub shown-front : (runs : List Run) (end : ℕ) → Each (λ (run : Run). start < run.start) (drop end runs)
-      → filter (is_shown nfa start) (take end runs) ≡ filter (is_shown nfa start) runs
-  shown-front runs end above =
-      filter-front (is_shown nfa start) runs end (Each-mapped (λ (run : Run). start < run.start) (λ run. is_shown nfa start run ≡ false)
-      (λ run lt. elsewhere run (λ e. omega (arith, lt, e))) (drop end runs) above)
+  pub shown-front : (runs : List Run) (end : ℕ) → Each (λ (run : Run). is_in_due due run ≡ false) (drop end runs)
+      → filter (is_shown nfa due) (take end runs) ≡ filter (is_shown nfa due) runs
+  shown-front runs end none =
+      filter-front (is_shown nfa due) runs end (Each-mapped (λ (run : Run). is_in_due due run ≡ false) (λ run. is_shown nfa due run ≡ false) elsewhere
+      (drop end runs) none)
 
-pub starts-order : (start : ℕ) (runs : List Run) (first end : ℕ) → first ≤ length runs → Each (λ (run : Run). run.start < start) (take first runs)
-    → Each (λ (run : Run). start < run.start) (drop end runs) → first ≤ end
-starts-order start runs first end bound before behind =
-    places runs first end start (start + 1) (omega arith) bound before
-    (Each-mapped (λ (run : Run). start < run.start) (λ (run : Run). start + 1 ≤ run.start) (λ run lt. omega (arith, lt)) (drop end runs) behind)
+-- before and behind a start there is no run of its due
+pub none-before : (start : ℕ) (runs : List Run) → Each (λ (run : Run). run.start < start) runs → Each (λ (run : Run). is_in_due (Start start) run ≡ false) runs
+none-before start runs below =
+    Each-mapped (λ (run : Run). run.start < start) (λ run. (run.start == start) ≡ false)
+    (λ run lt. ne_eqb run.start start (λ e. omega (arith, lt, e))) runs below
+
+pub none-behind : (start : ℕ) (runs : List Run) → Each (λ (run : Run). start < run.start) runs → Each (λ (run : Run). is_in_due (Start start) run ≡ false) runs
+none-behind start runs above =
+    Each-mapped (λ (run : Run). start < run.start) (λ run. (run.start == start) ≡ false)
+    (λ run lt. ne_eqb run.start start (λ e. omega (arith, lt, e))) runs above
 
 -- ---- tips in order
 
@@ -113,3 +121,44 @@ apart_from_dedup tips sorted = apart_from_strict (dedup is_same_tip tips) (IsStr
 -- and none is lost
 pub Contains-without_repeats : (tips : List Tip) (tip : Tip) → Contains tips tip → Contains (dedup is_same_tip tips) tip
 Contains-without_repeats tips tip = Contains-dedup (eq_by_cmp_equiv tip_cmp-total) (λ a b same. tip_cmp-same a b (is_equal (tip_cmp a b) same)) tips tip
+
+-- ---- tips among others
+
+pub same-refl : (tip : Tip) → is_same_tip tip tip ≡ true
+same-refl tip = ap is_eq (tip_cmp-refl tip)
+
+pub among-contains : (tips : List Tip) (tip : Tip) → Contains tips tip → is_among tips tip ≡ true
+among-contains tips tip q = list_any-contains (is_same_tip tip) tips tip q (same-refl tip)
+
+any-at : {X : Type 0} (test : X → Bool) (xs : List X) → list_any test xs ≡ true → (x : X) × Contains xs x × (test x ≡ true)
+any-at {X = X} test [] h = let no : false ≡ true = h in absurd cc
+any-at {X = X} test (x ∷ xs) h = split (or_cases (test x) (list_any test xs) h) (any-at test xs) where
+  split : (test x ≡ true) ⊎ (list_any test xs ≡ true) → (list_any test xs ≡ true → (y : X) × Contains xs y × (test y ≡ true))
+      → (y : X) × Contains (x ∷ xs) y × (test y ≡ true)
+  split (inl is) later = (x, Contains-first x xs, is)
+  split (inr some) later = let found = later some in (found.0, Contains-next x found.0 xs found.1, found.2)
+
+pub contains-among : (tips : List Tip) (tip : Tip) → is_among tips tip ≡ true → Contains tips tip
+contains-among tips tip h =
+    let found = any-at (is_same_tip tip) tips h in
+    subst (Contains tips) (sym (tip_cmp-same tip found.0 (is_equal (tip_cmp tip found.0) found.2))) found.1
+
+-- what a search for the tip finds
+pub among-found : (tips : List Tip) (tip : Tip) (i : ℕ) → i < length tips → HoldsAt (λ other. tip_cmp other tip ≡ Equal) tips i → is_among tips tip ≡ true
+among-found tips tip i lt at =
+    let here = tip_cmp-same (get_or tips i tip) tip (at tip) in
+    among-contains tips tip (i, lt, here)
+
+pub among-none : (tips : List Tip) (tip : Tip) (i : ℕ)
+    → IsPartitionPoint (λ other. tip_cmp other tip ≡ Less) (λ other. tip_cmp other tip ≡ Greater) tips i → is_among tips tip ≡ false
+among-none tips tip i parted = by_test (is_among tips tip) refl where
+  by_test : (b : Bool) → is_among tips tip ≡ b → is_among tips tip ≡ false
+  by_test false is = is
+  by_test true is =
+      let found = contains-among tips tip is in
+      let equal : tip_cmp (get_or tips found.0 tip) tip ≡ Equal = ap (λ (t : Tip). tip_cmp t tip) found.2 ∙ tip_cmp-refl tip in
+      placed found.0 found.1 equal (cases_order found.0 i) where
+        placed : (k : ℕ) → k < length tips → tip_cmp (get_or tips k tip) tip ≡ Equal → (k ≡ i) ⊎ ((k < i) ⊎ (i < k)) → is_among tips tip ≡ false
+        placed k lt equal (inr (inl below)) = let no : Less ≡ Equal = sym (parted.0 k tip (omega arith) below) ∙ equal in absurd cc
+        placed k lt equal (inr (inr above)) = let no : Greater ≡ Equal = sym (parted.1 k tip (omega (arith, above)) lt) ∙ equal in absurd cc
+        placed k lt equal (inl at) = let no : Greater ≡ Equal = sym (parted.1 k tip (omega (arith, at)) lt) ∙ equal in absurd cc

@@ -47,7 +47,7 @@ take-all (x ∷ xs) (suc i) le = ap (λ l. x ∷ l) (take-all xs i (omega (arith
 
 module _ (plan : Plan) (events : List Event) (holder : Holder) (held : Holds) (grown : Grown) (waits : List Wait) (old : BufferContent)
     (can : CanBeginWaits plan events holder held grown waits old) where
-  pub waits_short : length waits ≤ 64
+  pub waits_short : length waits ≤ 65
   waits_short = omega (arith, ap length can.waits_are, waits_few plan (stages_of holder.list), can.fit.few_stages)
 
   pub waits_none : (before : List Fresh) → HasBegunWaits plan events holder held [] before before old
@@ -66,7 +66,7 @@ module _ (plan : Plan) (events : List Event) (holder : Holder) (held : Holds) (g
     found : slice_get waits number ≡ Some wait
     found = got_at waits number wait within is
 
-    few_now : held_by (map holder_of (waiters_for holder (take number waits))) holder.list holder.node ≤ 64
+    few_now : held_by (map holder_of (waiters_for holder (take number waits))) holder.list holder.node ≤ 65
     few_now =
         let all = count_by-all (has holder.list holder.node) (map holder_of (waiters_for holder (take number waits))) in
         let one = length-mapped holder_of (waiters_for holder (take number waits)) in

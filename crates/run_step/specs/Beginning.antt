@@ -95,7 +95,7 @@ pub record CanBeginWaits (plan : Plan) (events : List Event) (holder : Holder) (
   pub fit : IsCompilable plan
   pub has : HoldsLists plan events held buffer
   pub is_held : 0 < held holder.list holder.node
-  pub few : held holder.list holder.node + 64 ≤ 2 ^ 62
+  pub few : held holder.list holder.node + 65 ≤ 2 ^ 62
   pub grown_is : IsGrownOf plan events holder grown
   pub waits_are : waits ≡ waits_of plan (stages_of holder.list)
   pub end : Entry

@@ -1,5 +1,5 @@
 -- What a step leaves. (This project's own.)
-use Rattle.std.specs.Prelude.{ℕ, ◌≡◌, Bool, true, not, IsTrue, List, [], ◌∷◌, ◌++◌, length, map, filter, Some}
+use Rattle.std.specs.Prelude.{ℕ, ◌≡◌, true, not, IsTrue, List, [], ◌∷◌, ◌++◌, length, map, filter, Some}
 use Rattle.std.specs.List.Sorted.{IsPermutation, IsSortedBy}
 use Rattle.cep_event.specs.declared.event.Event.{Event}
 use Rattle.cep_plan.specs.declared.plan.Plan.{Plan}
@@ -11,7 +11,8 @@ use Rattle.cep_plan.specs.Partial.{waits}
 use Rattle.nfa_compile.specs.State.{IsCompilable}
 use Rattle.nfa_compile.specs.declared.nfa.Nfa.{Nfa}
 use Rattle.nfa_compile.specs.Automaton.{automaton_of}
-use Rattle.live_laws.specs.Starts.{begins_in, comes_earlier}
+use Rattle.live_laws.specs.Starts.{Scope, begins_in, comes_earlier}
+use Rattle.list_runs.specs.Runs.{Admits}
 use Rattle.shared_buffer.specs.Slots.{slot_at}
 use Rattle.shared_buffer.specs.Content.{Content as BufferContent}
 use Rattle.shared_buffer.specs.declared.node.Standing.{Standing}
@@ -33,20 +34,20 @@ pub record HasEvent (buffer : BufferContent) (key position : ℕ) : Type 0 where
   pub position_is : row.position ≡ position
   pub pinned : IsTrue row.pinned
 
--- some plan, events and starts, for which the runs and the buffer stand
+-- some plan, events and scope, for which the runs and the buffer stand
 pub record StandsForSome (content : Content) (buffer : BufferContent) : Type 0 where
   pub plan : Plan
   pub somehow : StandsSomehow plan content buffer
 
--- The event was taken in: the lists of the tips, put in order, are the matches that end at it and begin at one of the starts, each once, and they are
--- held besides.
-pub record HasStepped (plan : Plan) (events : List Event) (event : Event) (starts : ℕ → Bool) (tips : List Holder) (shown : List Tip) (content : Content) (buffer : BufferContent) : Type 0 where
+-- The event was taken in: the lists of the tips, put in order, are the matches that end at it and begin at an open start, each once, and they are held
+-- besides.
+pub record HasStepped (plan : Plan) (events : List Event) (event : Event) (scope : Scope) (tips : List Holder) (shown : List Tip) (content : Content) (buffer : BufferContent) : Type 0 where
   pub holders : List Holder
   pub matches :
       (made : List (List Taken)) → IsPermutation (map (λ holder. taken_of (events ++ event ∷ []) holder.list) holders) made → IsSortedBy comes_earlier made
-      → made ≡ map (taken_of (events ++ event ∷ [])) (filter (begins_in starts) (matches_at plan events event))
+      → made ≡ map (taken_of (events ++ event ∷ [])) (filter (begins_in scope.starts) (matches_at plan events event))
   pub shown_are : AreTipsOf plan (events ++ event ∷ []) holders shown
-  pub stands : Stands plan (events ++ event ∷ []) starts (holders ++ tips) content buffer
+  pub stands : Stands plan (events ++ event ∷ []) scope (holders ++ tips) content buffer
   pub none_ahead : stands.ahead ≡ []
 
 -- What the event makes of the runs, before the buffer knows of it: the takes are those of the waiters that take it, of the empty list first; the
@@ -78,9 +79,9 @@ pub record PassedTo (plan : Plan) (events : List Event) (event : Event) (waiters
   pub position_is : new.position ≡ old.position
   pub empty_is : new.empty ≡ old.empty
 
--- The runs and the buffer stand for some events and starts, no tip is held, and the next position is one of the starts.
-pub record CanStep (plan : Plan) (content : Content) (buffer : BufferContent) : Type 0 where
+-- The runs and the buffer stand for some events and scope that the event under the key may come next to, and no tip is held.
+pub record CanStep (plan : Plan) (key : ℕ) (content : Content) (buffer : BufferContent) : Type 0 where
   pub events : List Event
-  pub starts : ℕ → Bool
-  pub fresh : starts (length events) ≡ true
-  pub stands : Stands plan events starts [] content buffer
+  pub scope : Scope
+  pub admits : (row : Standing) → slot_at buffer.events key ≡ Some row → Admits plan events scope row.event
+  pub stands : Stands plan events scope [] content buffer

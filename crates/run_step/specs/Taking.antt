@@ -2,7 +2,7 @@
 use Rattle.std.specs.Prelude.{ℕ, ◌≡◌, ◌+◌, ◌-◌, ◌<◌, ◌^◌, if◌then◌else◌, List, [], ◌∷◌, ◌++◌, take, true, length, ⊤, Option, Some, None, count_by}
 use Rattle.cep_event.specs.declared.event.Event.{Event}
 use Rattle.cep_plan.specs.declared.plan.Plan.{Plan}
-use Rattle.cep_plan.specs.Entry.{Entry, taken_of, event_at, last_entry, stages_of}
+use Rattle.cep_plan.specs.Entry.{Entry, taken_of, event_at, stages_of}
 use Rattle.cep_plan.specs.Partial.{waits}
 use Rattle.nfa_compile.specs.declared.nfa.Wait.{Wait}
 use Rattle.nfa_compile.specs.Automaton.{is_chaining, number_of_list, automaton_of}
@@ -12,7 +12,7 @@ use Rattle.run_step.specs.declared.runs.Run.{Run}
 use Rattle.match_labels.specs.Label.{mark_of, label_of, branches}
 use Rattle.list_buffer.specs.Held.{Holder}
 use Rattle.run_judge.specs.Fate.{AreSumsOf}
-use Rattle.run_step.specs.Runs.{Waiter, entry_of, IsRunOf}
+use Rattle.run_step.specs.Runs.{Waiter, EndsWith, IsRunOf}
 use Rattle.run_step.specs.declared.passing.Take.{Take}
 use Rattle.run_step.specs.declared.passing.Grown.{Grown}
 
@@ -49,7 +49,7 @@ pub record IsTakeOf (plan : Plan) (events : List Event) (position : ℕ) (waiter
   pub digit_is : taken.next_digit ≡ (mark_of plan events (taking waiter position)).next
   pub start_is : taken.start ≡ (first_of waiter.list (record { stage = waiter.stage; position = position })).position
   pub time_is : taken.start_ts ≡ (event_at events (first_of waiter.list (record { stage = waiter.stage; position = position })).position).ts
-  pub last_is : last_entry (taking waiter position) ≡ Some (entry_of taken.last)
+  pub ends : EndsWith events (taking waiter position) taken.last
   pub sums : AreSumsOf plan (taken_of events (taking waiter position)) taken.sums
 
 abbrev pub AreTakesOf : Plan → List Event → ℕ → List Waiter → List Take → Type 0
@@ -69,7 +69,7 @@ pub record IsGrownOf (plan : Plan) (events : List Event) (holder : Holder) (grow
   pub parts : holder.list ≡ first ∷ later
   pub start_is : grown.start ≡ first.position
   pub time_is : grown.start_ts ≡ (event_at events first.position).ts
-  pub last_is : last_entry holder.list ≡ Some (entry_of grown.last)
+  pub ends : EndsWith events holder.list grown.last
   pub sums : AreSumsOf plan (taken_of events holder.list) grown.sums
 
 abbrev pub AreGrownOf : Plan → List Event → List Holder → List Grown → Type 0

@@ -36,9 +36,9 @@ pub fn is_chaining(mode: Contiguity) -> bool
 
 /// How many of the waits branch off.
 pub fn branches_in(waits: &[Wait]) -> u64
-    requires { length waits.now ≤ 64 }
+    requires { length waits.now ≤ 65 }
     ensures exact { result ≡ count_by branches waits.now }
-    ensures few { result ≤ 64 }
+    ensures few { result ≤ 65 }
 {
     waits.iter().filter(|wait| !wait.same_chain).count() as u64
 }
@@ -52,7 +52,7 @@ pub fn label_after(
     next_digit: u64,
     bump: u64,
 ) -> Result<Version, NoMemory>
-    requires waits { length waits.now ≤ 64 }
+    requires waits { length waits.now ≤ 65 }
     requires number { number ≤ length waits.now }
     requires digit { next_digit < 2 ^ 63 }
     ensures { IfOk result (λ label. label ≡ label_after waits.now number wait.now version.now next_digit bump) }
@@ -69,7 +69,7 @@ pub fn label_after(
 
 /// The first digit that the list then hasn't given away.
 pub fn digit_after(waits: &[Wait], wait: &Wait, next_digit: u64) -> u64
-    requires waits { length waits.now ≤ 64 }
+    requires waits { length waits.now ≤ 65 }
     requires digit { next_digit < 2 ^ 63 }
     ensures { result ≡ digit_after waits.now wait.now next_digit }
 {

@@ -1,10 +1,10 @@
 //! Runs that wait for one stage.
-ghost use Rattle.std.specs.Prelude.{IsTrue, ◌-◌, slice_index_or, ◌≡◌, ◌≤◌, ◌<◌, [], ◌∷◌, ◌++◌, IfOk, if◌then◌else◌, List, length, take, drop, map, filter, not};
-ghost use Rattle.std.specs.List.{AllByRecursion as Each};
+ghost use Rattle.std.specs.Prelude.{IsTrue, ◌-◌, slice_index_or, ◌≡◌, ◌==◌, false, ◌≤◌, ◌<◌, [], ◌∷◌, ◌++◌, IfOk, if◌then◌else◌, List, length, take, drop, map, filter, not};
+ghost use Rattle.std.specs.List.{list_any, AllByRecursion as Each};
 ghost use Rattle.std.specs.List.Sorted.{IsPermutation};
 ghost use Rattle.run_step.specs.declared.runs.Run.{Run as RunRow};
 ghost use Rattle.cep_event.specs.declared.event.Event.{Event as EventRow};
-ghost use Rattle.run_step.specs.Content.{IsOrdered, staged};
+ghost use Rattle.run_step.specs.Content.{IsOrdered, staged, is_in_due};
 ghost use Rattle.run_step.specs.Runs.{Waiter, AreRunsOf};
 ghost use Rattle.cep_plan.specs.declared.plan.Plan.{Plan as PlanRow};
 ghost use Rattle.live_laws.specs.Starts.{is_from};
@@ -12,7 +12,7 @@ ghost use Rattle.list_buffer.specs.Held.{Holder, Holds};
 ghost use Rattle.list_buffer.specs.Listed.{HoldsLists};
 ghost use Rattle.run_step.specs.Putting.{CanEndAll, CanEndAllSome};
 ghost use Rattle.run_step.specs.Pins.{KeepsPins};
-ghost use Rattle.run_step.specs.Showing.{is_shown, tip_of};
+ghost use Rattle.run_step.specs.Showing.{shown_in};
 ghost use Rattle.run_step.specs.Noting.{CanPassGroup, CanPassGroupSome, GroupPassed, TailPassed};
 
 use crate::passed::{judged, note_take};
@@ -21,9 +21,9 @@ use crate::put::end_run;
 use crate::runs::{Run, TipList};
 use crate::shown::add_shown;
 use cep_event::{Event, NoMemory};
-use cep_plan::Plan;
+use cep_plan::{Due, Plan};
 use nfa_compile::Nfa;
-use run_judge::is_untouched;
+use run_judge::{StageAt, stage_at};
 use shared_buffer::Buffer;
 use std::alloc::Global;
 use std::collections::VecDeque;
@@ -51,24 +51,26 @@ impl Model for Group {
 /// How many runs at the front go on waiting. Their takes are noted.
 pub fn pass_front(
     runs: &mut RunQueue,
-    stage: u16,
+    at: &StageAt<'_>,
     nfa: &Nfa,
     plan: &Plan,
     event: &Event,
     position: u32,
     passing: &mut Passing,
 ) -> Result<usize, NoMemory>
-    requires { CanPassGroupSome plan.now position stage nfa.now runs.old.items }
+    requires plan { at.now.plan ≡ plan.now }
+    requires event { at.now.event ≡ event.now }
+    requires can { CanPassGroupSome plan.now position at.now.stage nfa.now runs.old.items }
     ensures within { IfOk result (λ kept. (kept ≤ length runs.new.items) × (length runs.new.items ≡ length runs.old.items)) }
     ensures rest { IfOk result (λ kept. drop kept runs.new.items ≡ drop kept runs.old.items) }
     ensures order { IsOrdered runs.old.items → IsOrdered runs.new.items }
-    ensures front { (events : List EventRow) (waiters : List Waiter) → CanPassGroup plan.now events position stage waiters nfa.now runs.old.items
-        → IfOk result (λ kept. GroupPassed plan.now events event.now stage (take kept waiters) (take kept runs.new.items) passing.old passing.new) }
+    ensures front { (events : List EventRow) (waiters : List Waiter) → CanPassGroup plan.now events position at.now.stage waiters nfa.now runs.old.items
+        → IfOk result (λ kept. GroupPassed plan.now events event.now at.now.stage (take kept waiters) (take kept runs.new.items) passing.old passing.new) }
 {
     let number = runs.len();
     for place in 0..number {
         let run = &mut runs[place];
-        let fate = judged(plan, run, stage, event, position);
+        let fate = judged(at, run, position);
         if !fate.lives {
             return Ok(place);
         }
@@ -100,23 +102,25 @@ pub fn keep_or_end(
 pub fn pass_tail(
     runs: &mut RunQueue,
     tail: RunQueue,
-    stage: u16,
+    at: &StageAt<'_>,
     nfa: &Nfa,
     plan: &Plan,
     event: &Event,
     position: u32,
     passing: &mut Passing,
 ) -> Result<(), NoMemory>
-    requires { CanPassGroupSome plan.now position stage nfa.now tail.items }
+    requires plan { at.now.plan ≡ plan.now }
+    requires event { at.now.event ≡ event.now }
+    requires can { CanPassGroupSome plan.now position at.now.stage nfa.now tail.items }
     ensures order { IsOrdered (runs.old.items ++ tail.items) → IsOrdered runs.new.items }
     ensures passed { (events : List EventRow) (waiters : List Waiter) (front : List Waiter)
-        → CanPassGroup plan.now events position stage waiters nfa.now tail.items
-        → AreRunsOf plan.now (events ++ event.now ∷ []) front (map (staged stage) runs.old.items)
-        → IfOk result (λ done. TailPassed plan.now events event.now stage front waiters runs.new.items passing.old passing.new) }
+        → CanPassGroup plan.now events position at.now.stage waiters nfa.now tail.items
+        → AreRunsOf plan.now (events ++ event.now ∷ []) front (map (staged at.now.stage) runs.old.items)
+        → IfOk result (λ done. TailPassed plan.now events event.now at.now.stage front waiters runs.new.items passing.old passing.new) }
 {
     for run in tail {
         let mut run = run;
-        let fate = judged(plan, &run, stage, event, position);
+        let fate = judged(at, &run, position);
         note_take(&mut run, fate.taken, nfa, plan, event, position, passing)?;
         keep_or_end(runs, run, fate.lives, &mut passing.ended)?;
     }
@@ -139,7 +143,8 @@ impl Group {
         self.stage
     }
 
-    /// Takes the event into the runs. A group of which it changes nothing isn't looked at, and the runs at the front that go on waiting aren't moved.
+    /// Takes the event into the runs. What the event alone tells of the stage is found once. A group of which the event changes nothing isn't looked at, and
+    /// the runs at the front that go on waiting aren't moved.
     pub fn pass(
         &mut self,
         nfa: &Nfa,
@@ -157,24 +162,17 @@ impl Group {
         if self.runs.is_empty() {
             return Ok(());
         }
-        if is_untouched(plan, self.stage, event) {
+        let at = stage_at(plan, self.stage, event);
+        if at.is_untouched() {
             return Ok(());
         }
-        let kept = pass_front(
-            &mut self.runs,
-            self.stage,
-            nfa,
-            plan,
-            event,
-            position,
-            passing,
-        )?;
+        let kept = pass_front(&mut self.runs, &at, nfa, plan, event, position, passing)?;
         if kept < self.runs.len() {
             let tail = self.runs.split_off(kept)?;
             pass_tail(
                 &mut self.runs,
                 tail,
-                self.stage,
+                &at,
                 nfa,
                 plan,
                 event,
@@ -195,14 +193,13 @@ impl Group {
         Ok(Group { stage, runs })
     }
 
-    /// Adds the tips of the runs whose lists begin there and aren't full, one for each run.
-    pub fn add_waiting(&self, nfa: &Nfa, start: u32, tips: &mut TipList) -> Result<(), NoMemory>
-        ensures { IfOk result (λ done. tips.new ≡ tips.old ++ map tip_of (filter (is_shown nfa.now start) self.now.runs)) }
+    /// Adds the tips of the runs of the due whose lists aren't full, one for each run.
+    pub fn add_shown(&self, nfa: &Nfa, due: Due, tips: &mut TipList) -> Result<(), NoMemory>
+        ensures { IfOk result (λ done. tips.new ≡ tips.old ++ shown_in nfa.now due self.now) }
     {
-        let first = place_of(&self.runs, start);
-        let end = place_behind(&self.runs, start);
+        let (first, end) = range_of(&self.runs, due);
         for place in first..end {
-            add_shown(tips, &self.runs[place], nfa, start)?;
+            add_shown(tips, &self.runs[place], nfa, due)?;
         }
         Ok(())
     }
@@ -221,6 +218,21 @@ impl Group {
             let end = place_of(&self.runs, to);
             end_between(&self.runs, buffer, first, end);
             drop_between(&mut self.runs, first, end);
+        }
+    }
+
+    /// Lets the runs of the due go, and their holds. It takes no memory.
+    pub fn expire(&mut self, buffer: &mut Buffer, due: Due)
+        requires { CanEndAllSome (filter (is_in_due due) self.old.runs) buffer.old }
+        ensures runs { self.new ≡ record self.old { runs = filter (λ run. not (is_in_due due run)) self.old.runs } }
+        ensures held { (plan : PlanRow) (events : List EventRow) (holders : List Holder) (held : Holds)
+            → CanEndAll plan events holders held (filter (is_in_due due) self.old.runs) buffer.old
+            → HoldsLists plan events held buffer.new }
+        ensures pins { KeepsPins buffer.old buffer.new }
+    {
+        match due {
+            Due::Start(start) => expire_start(&mut self.runs, buffer, start),
+            Due::Last(last) => expire_last(&mut self.runs, buffer, last),
         }
     }
 }
@@ -297,6 +309,20 @@ pub fn place_behind(runs: &RunQueue, start: u32) -> usize
     runs.partition_point(|run| run.start <= start)
 }
 
+/// Between which places the runs of the due stand. Those of a start stand together.
+pub fn range_of(runs: &RunQueue, due: Due) -> (usize, usize)
+    requires { IsOrdered runs.now.items }
+    ensures order { result.0 ≤ result.1 }
+    ensures bound { result.1 ≤ length runs.now.items }
+    ensures before { Each (λ run. is_in_due due run ≡ false) (take result.0 runs.now.items) }
+    ensures behind { Each (λ run. is_in_due due run ≡ false) (drop result.1 runs.now.items) }
+{
+    match due {
+        Due::Start(start) => (place_of(runs, start), place_behind(runs, start)),
+        Due::Last(_) => (0, runs.len()),
+    }
+}
+
 /// Takes the holds of the runs between the two places.
 pub fn end_between(runs: &RunQueue, buffer: &mut Buffer, first: usize, end: usize)
     requires bound { end ≤ length runs.now.items }
@@ -320,4 +346,66 @@ pub fn drop_between(runs: &mut RunQueue, first: usize, end: usize)
     if first < end {
         runs.drain(first..end);
     }
+}
+
+/// Lets the runs with this start go, and their holds.
+pub fn expire_start(runs: &mut RunQueue, buffer: &mut Buffer, start: u32)
+    requires order { IsOrdered runs.old.items }
+    requires can { CanEndAllSome (filter (λ run. run.start == start) runs.old.items) buffer.old }
+    ensures runs { runs.new.items ≡ filter (λ run. not (run.start == start)) runs.old.items }
+    ensures held { (plan : PlanRow) (events : List EventRow) (holders : List Holder) (held : Holds)
+        → CanEndAll plan events holders held (filter (λ run. run.start == start) runs.old.items) buffer.old → HoldsLists plan events held buffer.new }
+    ensures pins { KeepsPins buffer.old buffer.new }
+{
+    let first = place_of(runs, start);
+    let end = place_behind(runs, start);
+    end_between(runs, buffer, first, end);
+    drop_between(runs, first, end);
+}
+
+/// Takes the hold of the run, where its last event stands at the position.
+pub fn end_at(run: &Run, buffer: &mut Buffer, last: u32)
+    requires { CanEndAllSome (if run.now.last.position == last then run.now ∷ [] else []) buffer.old }
+    ensures held { (plan : PlanRow) (events : List EventRow) (holders : List Holder) (held : Holds)
+        → CanEndAll plan events holders held (if run.now.last.position == last then run.now ∷ [] else []) buffer.old → HoldsLists plan events held buffer.new }
+    ensures pins { KeepsPins buffer.old buffer.new }
+{
+    if run.last.position == last {
+        end_run(run, buffer);
+    }
+}
+
+/// Takes the holds of the runs whose last event stands at the position.
+pub fn end_last(runs: &RunQueue, buffer: &mut Buffer, last: u32)
+    requires { CanEndAllSome (filter (λ run. run.last.position == last) runs.now.items) buffer.old }
+    ensures held { (plan : PlanRow) (events : List EventRow) (holders : List Holder) (held : Holds)
+        → CanEndAll plan events holders held (filter (λ run. run.last.position == last) runs.now.items) buffer.old → HoldsLists plan events held buffer.new }
+    ensures pins { KeepsPins buffer.old buffer.new }
+{
+    for place in 0..runs.len() {
+        end_at(&runs[place], buffer, last);
+    }
+}
+
+/// Whether the last event of some run stands at the position.
+pub fn some_at(runs: &RunQueue, last: u32) -> bool
+    ensures { result ≡ list_any (λ run. run.last.position == last) runs.now.items }
+{
+    runs.iter().any(|run| run.last.position == last)
+}
+
+/// Lets the runs go whose last event stands at the position, and their holds.
+pub fn expire_last(runs: &mut RunQueue, buffer: &mut Buffer, last: u32)
+    requires { CanEndAllSome (filter (λ run. run.last.position == last) runs.old.items) buffer.old }
+    ensures runs { runs.new.items ≡ filter (λ run. not (run.last.position == last)) runs.old.items }
+    ensures held { (plan : PlanRow) (events : List EventRow) (holders : List Holder) (held : Holds)
+        → CanEndAll plan events holders held (filter (λ run. run.last.position == last) runs.old.items) buffer.old → HoldsLists plan events held buffer.new }
+    ensures pins { KeepsPins buffer.old buffer.new }
+{
+    if !some_at(runs, last) {
+        // To keep all would still move each run.
+        return;
+    }
+    end_last(runs, buffer, last);
+    runs.retain(|run| run.last.position != last);
 }

@@ -1,5 +1,5 @@
 //! What an event makes of one run.
-ghost use Rattle.std.specs.Prelude.{◌≡◌, ℕ, List, [], ◌∷◌, ◌++◌, Some, IfOk};
+ghost use Rattle.std.specs.Prelude.{◌≡◌, ◌<◌, ℕ, length, List, [], ◌∷◌, ◌++◌, Some, IfOk};
 ghost use Rattle.cep_event.specs.declared.event.Event.{Event as EventRow};
 ghost use Rattle.cep_plan.specs.declared.item.Taken.{Taken as TakenRow};
 ghost use Rattle.live_laws.specs.Survival.{survives, takes};
@@ -19,7 +19,7 @@ use cep_plan::Plan;
 use cond_sums::Sums;
 use dewey_version::Version;
 use nfa_compile::{Nfa, Wait};
-use run_judge::{Fate, Last, judged_list};
+use run_judge::{Fate, Last, StageAt};
 use shared_buffer::NodeKey;
 use std::alloc::Global;
 
@@ -33,7 +33,7 @@ pub fn take_of(
 ) -> Result<Take, NoMemory>
     requires { CanTakeSome plan.now position run.now nfa.now }
     ensures { (events : List EventRow) (waiter : Waiter) → CanTakeRun plan.now events position waiter run.now nfa.now
-        → IfOk result (λ made. IsTakeOf plan.now (events ++ event.now ∷ []) position waiter made) }
+        → waiter.stage < length plan.now.stages → IfOk result (λ made. IsTakeOf plan.now (events ++ event.now ∷ []) position waiter made) }
 {
     let waits = waits_at(nfa, run.wait.state);
     let number = run.wait.number as usize;
@@ -49,6 +49,7 @@ pub fn take_of(
         last: Last {
             stage: wait.stage,
             position,
+            ts: event.ts,
         },
         sums: run.sums.after(plan, wait.stage, event)?,
     })
@@ -67,7 +68,7 @@ pub fn first_take(
 ) -> Result<Take, NoMemory>
     requires { CanTakeFirstSome plan.now position waits.now number bump empty.now }
     ensures { (events : List EventRow) (stage : ℕ) → CanTakeFirst plan.now events position waits.now number stage bump empty.now
-        → IfOk result (λ made. IsTakeOf plan.now (events ++ event.now ∷ []) position (first_waiter stage) made) }
+        → stage < length plan.now.stages → IfOk result (λ made. IsTakeOf plan.now (events ++ event.now ∷ []) position (first_waiter stage) made) }
 {
     let wait = &waits[number];
     let version = Version::empty(alloc);
@@ -82,6 +83,7 @@ pub fn first_take(
         last: Last {
             stage: wait.stage,
             position,
+            ts: event.ts,
         },
         sums: empty.after(plan, wait.stage, event)?,
     })
@@ -113,23 +115,15 @@ pub fn note_first(
     Ok(bump + 1)
 }
 
-/// What the event does to the run.
-pub fn judged(plan: &Plan, run: &Run, stage: u16, event: &Event, position: u32) -> Fate
-    requires { IsWantedBy plan.now (wanted_in run.now.sums) }
-    ensures taken { (list : List TakenRow) → IsKeptOf plan.now event.now list run.now.sums (Some run.now.last) run.now.start_ts
-        → result.taken ≡ takes plan.now list stage event.now position }
-    ensures lives { (list : List TakenRow) → IsKeptOf plan.now event.now list run.now.sums (Some run.now.last) run.now.start_ts
-        → result.lives ≡ survives plan.now list stage event.now position }
+/// What the event does to the run, which waits for the stage.
+pub fn judged(at: &StageAt<'_>, run: &Run, position: u32) -> Fate
+    requires { IsWantedBy at.now.plan (wanted_in run.now.sums) }
+    ensures taken { (list : List TakenRow) → IsKeptOf at.now.plan at.now.event list run.now.sums (Some run.now.last) run.now.start_ts
+        → result.taken ≡ takes at.now.plan list at.now.stage at.now.event position }
+    ensures lives { (list : List TakenRow) → IsKeptOf at.now.plan at.now.event list run.now.sums (Some run.now.last) run.now.start_ts
+        → result.lives ≡ survives at.now.plan list at.now.stage at.now.event position }
 {
-    judged_list(
-        plan,
-        &run.sums,
-        Some(run.last),
-        run.start_ts,
-        stage,
-        event,
-        position,
-    )
+    at.judged(&run.sums, Some(run.last), run.start_ts, position)
 }
 
 /// Notes the take of the run, where the event may be taken.

@@ -10,7 +10,7 @@ use Rattle.cep_plan.specs.History.{history}
 use Rattle.cep_plan.specs.Skipping.{kept}
 use Rattle.cep_plan.specs.Tick.{Tick, events_of, last_time}
 use Rattle.cep_plan.specs.Living.{stand, reach}
-use Rattle.live_laws.specs.Starts.{open_starts}
+use Rattle.live_laws.specs.Starts.{open_scope}
 use Rattle.live_laws.proofs.MemberLaws.{Contains-map, Each-from_contains}
 use Rattle.match_labels.specs.Label.{label_of}
 use Rattle.match_extract.specs.Path.{IsPath}
@@ -131,10 +131,10 @@ module _ {plan : Plan} {ticks : List Tick} {content : Content} {buffer : BufferC
     short = λ list q. label_short plan events list;
   }
 
--- The runs and the buffer that stand for the events of the ticks and the starts that are open, with no tip, no event ahead and no
+-- The runs and the buffer that stand for the events of the ticks and the lists that are open, with no tip, no event ahead and no
 -- pin, are exactly those of the living lists.
 pub shares_exactly : (plan : Plan) (ticks : List Tick) (content : Content) (buffer : BufferContent)
-    → (stands : Stands plan (events_of ticks) (open_starts plan (events_of ticks) (kept plan.skip (history plan ticks)) (last_time ticks)) [] content buffer)
+    → (stands : Stands plan (events_of ticks) (open_scope plan (events_of ticks) (kept plan.skip (history plan ticks)) (last_time ticks)) [] content buffer)
     → stands.ahead ≡ []
     → ((key : ℕ) (row : Standing) → slot_at buffer.events key ≡ Some row → row.pinned ≡ false)
     → IsConsistent buffer
@@ -155,7 +155,7 @@ shares_exactly plan ticks content buffer stands none free sound =
 
 -- The same of runs and a buffer that stand with no event ahead.
 pub shares_now : (plan : Plan) (ticks : List Tick) (content : Content) (buffer : BufferContent)
-    → StandsNow plan (events_of ticks) (open_starts plan (events_of ticks) (kept plan.skip (history plan ticks)) (last_time ticks)) [] content buffer
+    → StandsNow plan (events_of ticks) (open_scope plan (events_of ticks) (kept plan.skip (history plan ticks)) (last_time ticks)) [] content buffer
     → ((key : ℕ) (row : Standing) → slot_at buffer.events key ≡ Some row → row.pinned ≡ false)
     → IsConsistent buffer
     → SharesExactly plan ticks content buffer

@@ -1,8 +1,9 @@
 -- How much stands in a buffer after ticks, counted over the living lists alone. (This project's own.)
-use Rattle.std.specs.Prelude.{ℕ, Bool, if◌then◌else◌, List, [], ◌∷◌, ◌++◌, length, map, flat_map, filter, count_by, max}
+use Rattle.std.specs.Prelude.{ℕ, ◌+◌, Bool, if◌then◌else◌, List, [], ◌∷◌, ◌++◌, length, map, flat_map, filter, count_by, max}
 use Rattle.std.specs.List.{list_any, range_with_len}
 use Rattle.cep_plan.specs.declared.plan.Plan.{Plan}
 use Rattle.cep_plan.specs.Entry.{Entry}
+use Rattle.cep_plan.specs.Follow.{end_stage}
 use Rattle.cep_plan.specs.Partial.{waits}
 use Rattle.cep_plan.specs.Tick.{Tick, events_of}
 use Rattle.cep_plan.specs.Living.{living, stand, reach}
@@ -20,9 +21,9 @@ pub record Waiting : Type 0 where
 abbrev pub waiting_for : List Entry → ℕ → Waiting
 waiting_for list stage = record { list = list; stage = stage }
 
--- the list with each stage that it waits for after the ticks, in order of stage
+-- the list with each stage that it waits for after the ticks, the end stage among them, in order of stage
 abbrev pub waiting_of : Plan → List Tick → List Entry → List Waiting
-waiting_of plan ticks list = map (waiting_for list) (filter (waits plan (events_of ticks) list) (range_with_len 0 (length plan.stages)))
+waiting_of plan ticks list = map (waiting_for list) (filter (waits plan (events_of ticks) list) (range_with_len 0 (end_stage plan + 1)))
 
 -- the living lists after the ticks, each with each stage that it waits for
 abbrev pub waiting_after : Plan → List Tick → List Waiting

@@ -6,7 +6,7 @@ use Rattle.std.specs.List.Sorted.{IsNonDecreasingBy}
 use Rattle.std.proofs.lemmas.List.Elements.{All-from_recursion}
 use Rattle.std.proofs.lemmas.Bool.{lt-ltb, le-ltb, le-leb, lt-leb, leb-true}
 use Rattle.live_laws.specs.Starts.{is_from}
-use Rattle.time_limit.specs.declared.limits.Start.{Start}
+use Rattle.time_limit.specs.declared.queue.Place.{Place}
 use Rattle.time_limit.specs.Limits.{AreInOrder}
 
 module _ {X : Type 0} (P : X → Type 0) where
@@ -23,17 +23,17 @@ module _ {X : Type 0} (P : X → Type 0) where
   Each-drop (x ∷ xs) (suc i) h = Each-drop xs i (λ k d le lt. h (suc k) d (omega (arith, le)) (omega (arith, lt)))
 
 -- positions of starts in order rise
-pub IsNonDecreasingBy-in_order : (starts : List Start) → AreInOrder starts → IsNonDecreasingBy (λ s. s.position) starts
+pub IsNonDecreasingBy-in_order : (starts : List Place) → AreInOrder starts → IsNonDecreasingBy (λ s. s.position) starts
 IsNonDecreasingBy-in_order [] order i j d le lt = absurd (omega (arith, lt))
 IsNonDecreasingBy-in_order (s ∷ starts) order zero zero d le lt = omega arith
 IsNonDecreasingBy-in_order (s ∷ starts) order zero (suc j) d le lt =
-    let above = All-from_recursion (λ (t : Start). (s.position < t.position) × (int_le s.ts t.ts ≡ true)) starts order.0 j d (omega (arith, lt)) in
+    let above = All-from_recursion (λ (t : Place). (s.position < t.position) × (int_le s.ts t.ts ≡ true)) starts order.0 j d (omega (arith, lt)) in
     omega (arith, above.0)
 IsNonDecreasingBy-in_order (s ∷ starts) order (suc i) zero d le lt = absurd (omega (arith, le))
 IsNonDecreasingBy-in_order (s ∷ starts) order (suc i) (suc j) d le lt = IsNonDecreasingBy-in_order starts order.1 i j d (omega (arith, le)) (omega (arith, lt))
 
 -- the place of one position and that of a later one
-pub places-order : (starts : List Start) (first end from to : ℕ) → from ≤ to → first ≤ length starts
+pub places-order : (starts : List Place) (first end from to : ℕ) → from ≤ to → first ≤ length starts
     → Each (λ s. s.position < from) (take first starts) → Each (λ s. to ≤ s.position) (drop end starts) → first ≤ end
 places-order [] first end from to le bound before behind = omega (arith, bound)
 places-order (s ∷ starts) zero end from to le bound before behind = omega arith
@@ -42,7 +42,7 @@ places-order (s ∷ starts) (suc first) (suc end) from to le bound before behind
     let later = places-order starts first end from to le (omega (arith, bound)) before.1 behind in omega (arith, later)
 
 module _ (from to : ℕ) where
-  abbrev stays : Start → Bool
+  abbrev stays : Place → Bool
   stays start = not (is_from from to start.position)
 
   stays-before : (p : ℕ) → p < from → not (is_from from to p) ≡ true
@@ -58,13 +58,13 @@ module _ (from to : ℕ) where
   goes-between p le lt = λ i. not (le-leb from p le i && lt-ltb p to lt i)
 
   -- no start behind the range goes
-  all_stay : (starts : List Start) → Each (λ s. to ≤ s.position) starts → filter stays starts ≡ starts
+  all_stay : (starts : List Place) → Each (λ s. to ≤ s.position) starts → filter stays starts ≡ starts
   all_stay [] h = refl
   all_stay (s ∷ starts) h = ap (λ b. cond b (s ∷ filter stays starts) (filter stays starts)) (stays-behind s.position h.0)
       ∙ ap (λ more. s ∷ more) (all_stay starts h.1)
 
   -- the starts between the two places are those in the range
-  pub range-between : from ≤ to → (starts : List Start) (first end : ℕ)
+  pub range-between : from ≤ to → (starts : List Place) (first end : ℕ)
       → Each (λ s. s.position < from) (take first starts) → Each (λ s. from ≤ s.position) (drop first starts)
       → Each (λ s. s.position < to) (take end starts) → Each (λ s. to ≤ s.position) (drop end starts)
       → filter stays starts ≡ take first starts ++ drop end starts
@@ -88,7 +88,7 @@ module _ (from to : ℕ) where
     by_test true is = ap not (le-ltb p to (omega (arith, le, leb-true from p is)))
     by_test false is = refl
 
-  pub range-empty : to ≤ from → (starts : List Start) → filter stays starts ≡ starts
+  pub range-empty : to ≤ from → (starts : List Place) → filter stays starts ≡ starts
   range-empty le [] = refl
   range-empty le (s ∷ starts) = ap (λ b. cond b (s ∷ filter stays starts) (filter stays starts)) (stays-empty le s.position)
       ∙ ap (λ more. s ∷ more) (range-empty le starts)

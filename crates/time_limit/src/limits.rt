@@ -1,25 +1,22 @@
-ghost use Rattle.std.specs.Prelude.{◌≡◌, ◌≤◌, ◌<◌, ◌++◌, [], ◌∷◌, Bool, true, not, length, filter, take, drop, int_le, OnOk, OnErr};
-ghost use Rattle.std.specs.List.{AllByRecursion as Each};
+//! Both limits of a pattern: what is kept for each, and what is due first.
+ghost use Rattle.std.specs.Prelude.{◌≡◌, ◌++◌, [], ◌∷◌, None, not, filter, OnOk, OnErr};
 ghost use Rattle.live_laws.specs.Starts.{is_from};
-ghost use Rattle.time_limit.specs.Limits.{limited, is_over, is_front_over, first_over, without_first_over, AreInOrder};
+ghost use Rattle.time_limit.specs.Limits.{limited, first_over, without_first_over, earlier_due, first_due, without_first_due, AreInOrder, AreBefore};
 
+use crate::queue::{Place, drop_places, keep, make_room, take_over};
 use cep_event::{Moment, NoMemory};
+use cep_plan::Due;
 use std::alloc::Global;
 use std::collections::VecDeque;
 use std::marker::Model;
 
-/// Where lists start: the position of their first event, and the time of that event in milliseconds.
-#[derive(Clone, Copy, Debug, PartialEq, Eq)]
-pub struct Start {
-    pub position: u32,
-    pub ts: i64,
-}
-
-/// The starts whose time limit isn't reached yet, in order. Without a limit none is kept.
+/// The starts whose time limit isn't reached yet, and the last positions whose gap limit isn't, each in order. Without a limit none is kept.
 #[derive(Drop)]
 pub struct Limits {
     within: Option<u64>,
-    starts: VecDeque<Start>,
+    gap: Option<u64>,
+    starts: VecDeque<Place>,
+    lasts: VecDeque<Place>,
 }
 
 impl Model for Limits {
@@ -27,94 +24,62 @@ impl Model for Limits {
 
     ghost Value = { Kept };
 
-    ghost view = { λ l. record { within = l.within; starts = l.starts.items } };
+    ghost view = { λ l. record { within = l.within; gap = l.gap; starts = l.starts.items; lasts = l.lasts.items } };
 
-    ghost invariant = { λ l. AreInOrder l.starts.items };
-}
-
-/// Whether the time limit of lists that begin there is reached at the moment.
-pub fn is_reached(within: Option<u64>, now: Moment, start: &Start) -> bool
-    ensures { result ≡ is_over within now start.now }
-{
-    match within {
-        None => false,
-        Some(within) => match now {
-            Moment::End => true,
-            Moment::At(time) => start.ts as i128 + within as i128 <= time as i128,
-        },
-    }
-}
-
-/// Whether the limit of the first start is reached at the moment.
-pub fn is_front_reached(within: Option<u64>, now: Moment, starts: &VecDeque<Start>) -> bool
-    ensures { result ≡ is_front_over within now starts.now.items }
-{
-    match starts.front() {
-        None => false,
-        Some(start) => is_reached(within, now, start),
-    }
-}
-
-/// How many of the starts are before the position.
-pub fn place_of(starts: &VecDeque<Start>, position: u32) -> usize
-    requires { AreInOrder starts.now.items }
-    ensures bound { result ≤ length starts.now.items }
-    ensures before { Each (λ s. s.position < position) (take result starts.now.items) }
-    ensures behind { Each (λ s. position ≤ s.position) (drop result starts.now.items) }
-{
-    starts.partition_point(|start| start.position < position)
-}
-
-/// Takes out the starts between the two places.
-pub fn drop_between(starts: &mut VecDeque<Start>, first: usize, end: usize)
-    requires order { first ≤ end }
-    requires bound { end ≤ length starts.old.items }
-    ensures { starts.new.items ≡ take first starts.old.items ++ drop end starts.old.items }
-{
-    // To take out none would still turn the queue.
-    if first < end {
-        starts.drain(first..end);
-    }
+    ghost invariant = { λ l. AreInOrder l.starts.items × AreInOrder l.lasts.items };
 }
 
 impl Limits {
-    /// No start is kept. It takes no memory.
-    pub fn new(alloc: Global, within: Option<u64>) -> Limits
-        ensures { result ≡ record { within = within; starts = [] } }
+    /// Nothing is kept. It takes no memory.
+    pub fn new(alloc: Global, within: Option<u64>, gap: Option<u64>) -> Limits
+        ensures { result ≡ record { within = within; gap = gap; starts = []; lasts = [] } }
     {
         Limits {
             within,
+            gap,
             starts: VecDeque::new(alloc),
+            lasts: VecDeque::new(alloc),
         }
     }
 
-    /// Keeps a start, where there is a time limit. It comes behind those that are kept.
-    pub fn add(&mut self, start: u32, ts: i64) -> Result<(), NoMemory>
-        requires { Each (λ s. (s.position < start) × (int_le s.ts ts ≡ true)) self.old.starts }
+    /// Keeps a position as a start and as a last one, for each of the two where there is a limit. It comes behind those that are kept.
+    pub fn add(&mut self, position: u32, ts: i64) -> Result<(), NoMemory>
+        requires starts { AreBefore position ts self.old.starts }
+        requires lasts { AreBefore position ts self.old.lasts }
         ensures ok { OnOk result (self.new
-            ≡ record self.old { starts = self.old.starts ++ limited self.old.within (record { position = start; ts = ts } ∷ []) }) }
+            ≡ record self.old {
+              starts = self.old.starts ++ limited self.old.within (record { position = position; ts = ts } ∷ []);
+              lasts = self.old.lasts ++ limited self.old.gap (record { position = position; ts = ts } ∷ []);
+            }) }
         ensures err { OnErr result (self.new ≡ self.old) }
     {
-        if self.within.is_some() {
-            self.starts.push_back(Start {
-                position: start,
-                ts,
-            })?;
-        }
+        make_room(self.within, &mut self.starts)?;
+        make_room(self.gap, &mut self.lasts)?;
+        let place = Place { position, ts };
+        keep(self.within, &mut self.starts, place);
+        keep(self.gap, &mut self.lasts, place);
         Ok(())
     }
 
-    /// Takes out the first kept start whose limit is reached at the moment. It takes no memory.
-    pub fn next_due(&mut self, now: Moment) -> Option<u32>
-        ensures due { result ≡ first_over self.old.within now self.old.starts }
-        ensures left { self.new ≡ record self.old { starts = without_first_over self.old.within now self.old.starts } }
+    /// Takes out the first kept start whose limit is reached at the moment, and where there is none the first such last position. It takes no memory.
+    pub fn next_due(&mut self, now: Moment) -> Option<Due>
+        ensures due { result ≡ first_due self.old now }
+        ensures left { self.new ≡ without_first_due self.old now }
     {
-        if !is_front_reached(self.within, now, &self.starts) {
-            return None;
+        match take_over(self.within, now, &mut self.starts) {
+            Some(position) => Some(Due::Start(position)),
+            None => self.next_last(now),
         }
-        match self.starts.pop_front() {
+    }
+
+    /// Takes out the first kept last position whose limit is reached at the moment.
+    fn next_last(&mut self, now: Moment) -> Option<Due>
+        ensures due { result ≡ earlier_due None (first_over self.old.gap now self.old.lasts) }
+        ensures left { self.new ≡ record self.old { lasts = without_first_over self.old.gap now self.old.lasts } }
+    {
+        match take_over(self.gap, now, &mut self.lasts) {
             None => None,
-            Some(start) => Some(start.position),
+            Some(position) => Some(Due::Last(position)),
         }
     }
 
@@ -122,10 +87,6 @@ impl Limits {
     pub fn drop_range(&mut self, from: u32, to: u32)
         ensures { self.new ≡ record self.old { starts = filter (λ s. not (is_from from to s.position)) self.old.starts } }
     {
-        if from < to {
-            let first = place_of(&self.starts, from);
-            let end = place_of(&self.starts, to);
-            drop_between(&mut self.starts, first, end);
-        }
+        drop_places(&mut self.starts, from, to);
     }
 }

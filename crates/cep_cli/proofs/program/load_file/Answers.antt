@@ -64,5 +64,6 @@ returns-in-Err-clause-loaded g c = λ content plan told planned.
 
 pub returns-in-Err-clause-complete : goal.returns-in-Err-clause-complete
 returns-in-Err-clause-complete g c = λ content told no_file no_write memory.
-    let f = fault-told (ArePlannedAs content) c.in-Err.stop c.status.result c.status.ensures.told (c.in-Err.ensures.told content told) (λ is. no_file (c.in-Err.ensures.failed (ap (λ w. Err w) is))) memory in
+    let f = fault-told (ArePlannedAs content) c.in-Err.stop c.status.result c.status.ensures.told (c.in-Err.ensures.told content told)
+    (λ is. no_file (c.in-Err.ensures.failed (ap (λ w. Err w) is))) memory in
     (Err f.0, f.1, f.2)

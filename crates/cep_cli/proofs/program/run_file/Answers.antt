@@ -44,7 +44,8 @@ returns-in-Err-clause-ran g c = λ content all plan told planned left.
 
 pub returns-in-Err-clause-complete : goal.returns-in-Err-clause-complete
 returns-in-Err-clause-complete g c = λ content all told left well.
-    let f = fault-told (ArePlannedAs content) c.in-Err.stop c.status.result c.status.ensures.told (c.in-Err.ensures.told content told) (λ is. well.file (c.in-Err.ensures.failed (ap (λ w. Err w) is))) well.memory in
+    let f = fault-told (ArePlannedAs content) c.in-Err.stop c.status.result c.status.ensures.told (c.in-Err.ensures.told content told)
+    (λ is. well.file (c.in-Err.ensures.failed (ap (λ w. Err w) is))) well.memory in
     (Err f.0, f.1, f.2)
 
 pub returns-in-Err-clause-blamed : goal.returns-in-Err-clause-blamed

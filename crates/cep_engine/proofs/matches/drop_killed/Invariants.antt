@@ -1,8 +1,9 @@
 -- The starts without those that the matches so far kill.
-use Rattle.std.proofs.Common.{◌≡◌, ◌<◌, ℕ, true, not, take}
-use Rattle.std.specs.Prelude.{ℤ, int_le, filter}
-use Rattle.std.specs.List.{list_any, AllByRecursion as Each}
+use Rattle.std.proofs.Common.{◌≡◌, ℕ, not, take}
+use Rattle.std.specs.Prelude.{ℤ, filter}
+use Rattle.std.specs.List.{list_any}
 use Rattle.cep_plan.specs.Skipping.{kills_start}
+use Rattle.cep_engine.specs.State.{AreKeptBefore}
 use Rattle.cep_engine.specs.Small.{AreSmall}
 use Rattle.cep_engine.proofs.matches.drop_killed.Given as goal
 
@@ -14,5 +15,4 @@ invariant-loop-list l =
       starts =
           filter (λ s. not (list_any (λ list. kills_start l.skip list s.position) (take l.list-index l.list-items))) l.initial.limits.starts;
     })
-    × ((position : ℕ) (time : ℤ) → Each (λ s. (s.position < position) × (int_le s.ts time ≡ true)) l.initial.limits.starts
-    → Each (λ s. (s.position < position) × (int_le s.ts time ≡ true)) l.limits.starts)
+    × ((position : ℕ) (time : ℤ) → AreKeptBefore position time l.initial.limits → AreKeptBefore position time l.limits)

@@ -30,7 +30,8 @@ loop-list-preserved-in-Continue-1 c = λ small.
           let known = before.2 order in
           let later = subst AreInStartOrder rest known.1 in
           let behind = subst (StartBefore found) rest known.2 in
-          let lives : is_killed c.args.skip (map Match found) list ≡ false = killed_below c.args.skip found c.loop-list.reach list known.3 (StartBefore-next found list c.next.new.self.rest.items behind) ∙ sym c.starts_below.ensures ∙ (search rules) in (
+          let lives : is_killed c.args.skip (map Match found) list ≡ false = killed_below c.args.skip found c.loop-list.reach list known.3
+          (StartBefore-next found list c.next.new.self.rest.items behind) ∙ sym c.starts_below.ensures ∙ (search rules) in (
             ap (map Match) pushed ∙ kept_after-kept c.args.skip found c.loop-list.yielded list known.0 lives,
             later.1,
             subst (λ f. StartBefore f c.next.new.self.rest.items) (sym pushed)
@@ -54,7 +55,8 @@ loop-list-preserved c = λ small.
       λ order.
           let known = before.2 order in
           let behind = subst (StartBefore found) rest known.2 in
-          let dies : is_killed c.args.skip (map Match found) list ≡ true = killed_below c.args.skip found c.loop-list.reach list known.3 (StartBefore-next found list c.next.new.self.rest.items behind) ∙ sym c.starts_below.ensures ∙ (search rules) in (
+          let dies : is_killed c.args.skip (map Match found) list ≡ true = killed_below c.args.skip found c.loop-list.reach list known.3
+          (StartBefore-next found list c.next.new.self.rest.items behind) ∙ sym c.starts_below.ensures ∙ (search rules) in (
             kept_after-killed c.args.skip found c.loop-list.yielded list known.0 dies,
             (subst AreInStartOrder rest known.1).1,
             StartBefore-rest found

@@ -1,7 +1,7 @@
 use Rattle.std.proofs.Common.{sym, ◌∙◌, ap, subst, ◌<◌, ◌^◌, ◌++◌, length, map}
 use Rattle.std.specs.Prelude.{All}
 use Rattle.cep_event.specs.declared.record.Moment.TheVariants.{End}
-use Rattle.cep_engine.specs.Standing.{kept_at}
+use Rattle.cep_plan.specs.Keys.{kept_at}
 use Rattle.cep_plan.specs.Skipping.{list_in}
 use Rattle.cep_plan.specs.Tick.{mark_tick}
 use Rattle.event_pipeline.specs.Telling.{Tells}
@@ -28,4 +28,5 @@ returns-in-Ok g c = λ ticks stands.
 
 pub returns-in-Err-NoMemory : goal.returns-in-Err-NoMemory
 returns-in-Err-NoMemory g c = λ ticks stands.
-    cut-first (g.O.Outputs.tells c.args.engine.plan) (g.O.Outputs.stops c.args.engine.plan) (c.args.outputs.now, c.args.to.now) (map item_told (kept_at c.args.engine.plan ticks (mark_tick End)))
+    cut-first (g.O.Outputs.tells c.args.engine.plan) (g.O.Outputs.stops c.args.engine.plan) (c.args.outputs.now, c.args.to.now)
+    (map item_told (kept_at c.args.engine.plan ticks (mark_tick End)))

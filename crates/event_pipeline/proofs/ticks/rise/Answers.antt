@@ -16,7 +16,8 @@ use Rattle.event_pipeline.proofs.RunningLaws.{later-above, running-marked}
 use Rattle.event_pipeline.proofs.ticks.rise.Goals as goal
 
 pub take_ready-requires-clause-takes : goal.take_ready-requires-clause-takes
-take_ready-requires-clause-takes g c = subst (λ (o : OrderState). CanTake o.waiting c.args.engine.now) (sym c.if-not-mark.ensures.state) c.requires.running.takes
+take_ready-requires-clause-takes g c = subst (λ (o : OrderState). CanTake o.waiting c.args.engine.now)
+    (sym c.if-not-mark.ensures.state) c.requires.running.takes
 
 pub take_ready-requires-clause-room : goal.take_ready-requires-clause-room
 take_ready-requires-clause-room g c = omega (arith, ap (λ (o : OrderState). length o.waiting) c.if-not-mark.ensures.state, c.requires.room)
@@ -84,7 +85,9 @@ returns-in_err-greatest-clause-met g c = λ lag arrivals ticks is stands.
     rw (p.1, p.2) (subst (λ t. StopsAmong (g.O.Outputs.tells c.args.engine.now.plan) (g.O.Outputs.stops c.args.engine.now.plan) c.in_err-greatest.field-0.0
     (c.args.outputs.now, c.args.to.now) (c.take_ready.new.outputs, c.take_ready.new.to)
     (told_more c.args.engine.now.plan ticks (ticks_after arrivals (marked t ∷ [])))) (to_z-of_z c.ranges.time)
-    (raised-cut (g.O.Outputs.tells c.args.engine.now.plan) (g.O.Outputs.stops c.args.engine.now.plan) c.args.engine.now.plan lag arrivals ticks _ c.mark.new.self (sym (c.if-not-mark.ensures.rises lag arrivals is)) (c.if-not-mark.ensures.hands lag arrivals is)
+    (raised-cut (g.O.Outputs.tells c.args.engine.now.plan)
+    (g.O.Outputs.stops c.args.engine.now.plan) c.args.engine.now.plan lag arrivals ticks _ c.mark.new.self
+    (sym (c.if-not-mark.ensures.rises lag arrivals is)) (c.if-not-mark.ensures.hands lag arrivals is)
     (c.args.outputs.now, c.args.to.now) (c.take_ready.new.outputs, c.take_ready.new.to) c.in_err-greatest.field-0.0
     (c.in_err-greatest.ensures.taken ticks stands)))
 

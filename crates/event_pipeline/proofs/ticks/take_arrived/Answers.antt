@@ -11,7 +11,8 @@ use Rattle.event_pipeline.proofs.ShownLaws.{sizes_added-is, shows-none, shows-er
 use Rattle.event_pipeline.proofs.ticks.take_arrived.Goals as goal
 
 pub follow-requires-clause-running : goal.follow-requires-clause-running
-follow-requires-clause-running g c = running-arrived c.args.order.now c.arrive.new.order c.args.engine.now c.args.event c.in_ok-arrive.ensures.state c.requires.running
+follow-requires-clause-running g c =
+    running-arrived c.args.order.now c.arrive.new.order c.args.engine.now c.args.event c.in_ok-arrive.ensures.state c.requires.running
 
 pub follow-requires-clause-room : goal.follow-requires-clause-room
 follow-requires-clause-room g c = omega (arith, one-more-waits c.args.order.now c.arrive.new.order c.args.event c.in_ok-arrive.ensures.state, c.requires.room)
@@ -33,7 +34,8 @@ returns-in_err-greatest-clause-gone g c = λ lag records is stands.
     let before = arrivals_of lag records in
     let p = err_from_is_err_and c.from_residual-in_err-greatest.result c.from_residual-in_err-greatest.ensures.1 in
     rw (p.1, p.2)
-    (row-at g.O.Outputs.tells g.O.Outputs.stops c.args.engine.now.plan c.args.engine.now.plan refl {T = ℕ} lag records c.args.event c.follow.new.order c.follow.new.engine
+    (row-at g.O.Outputs.tells g.O.Outputs.stops c.args.engine.now.plan c.args.engine.now.plan refl {T =
+    ℕ} lag records c.args.event c.follow.new.order c.follow.new.engine
     (c.args.outputs.now, c.args.to.now) (c.arrive.new.outputs, c.arrive.new.to) (c.follow.new.outputs, c.follow.new.to) (Err c.in_err-greatest.field-0.0)
     (c.in_ok-arrive.ensures.told c.args.engine.now.plan lag before is)
     (c.in_err-greatest.ensures.met lag before c.args.event (ticks_of lag records) (c.in_ok-arrive.ensures.order lag before is) stands))
@@ -42,7 +44,9 @@ pub returns-in_err-arrive-clause-gone : goal.returns-in_err-arrive-clause-gone
 returns-in_err-arrive-clause-gone g c = λ lag records is stands.
     let before = arrivals_of lag records in
     let p = err_from_is_err_and c.from_residual.result c.from_residual.ensures.1 in
-    rw (p.1, p.2) (gone-late (g.O.Outputs.tells c.args.engine.now.plan) (g.O.Outputs.stops c.args.engine.now.plan) c.args.engine.now.plan lag records c.args.event (c.args.outputs.now, c.args.to.now) (c.arrive.new.outputs, c.arrive.new.to) c.in_err-arrive.field-0.0
+    rw (p.1, p.2) (gone-late (g.O.Outputs.tells c.args.engine.now.plan)
+    (g.O.Outputs.stops c.args.engine.now.plan) c.args.engine.now.plan lag records c.args.event (c.args.outputs.now, c.args.to.now)
+    (c.arrive.new.outputs, c.arrive.new.to) c.in_err-arrive.field-0.0
     (c.in_err-arrive.ensures.told c.args.engine.now.plan lag before is))
 
 pub returns-clause-shown : goal.returns-clause-shown

@@ -31,7 +31,8 @@ returns-clause-taken g c = λ ticks stands.
 pub returns-in_err-items-clause-taken : goal.returns-in_err-items-clause-taken
 returns-in_err-items-clause-taken g c = λ ticks stands.
     let p = err_from_is_err_and c.from_residual.result c.from_residual.ensures.1 in
-    takes-none (g.O.Outputs.tells c.args.engine.now.plan) (g.O.Outputs.stops c.args.engine.now.plan) c.args.engine.now.plan ticks (event_tick c.args.event ∷ []) c.event_items.new.engine (c.args.outputs.now, c.args.to.now) c.from_residual.result
+    takes-none (g.O.Outputs.tells c.args.engine.now.plan) (g.O.Outputs.stops c.args.engine.now.plan) c.args.engine.now.plan ticks
+    (event_tick c.args.event ∷ []) c.event_items.new.engine (c.args.outputs.now, c.args.to.now) c.from_residual.result
     (p.1 ∙ ap (λ e. Err e) (p.2 ∙ same-fault c.in_err-items.field-0.0 NoMemory c.in_err-items.ensures.fault))
 
 pub returns-clause-shown : goal.returns-clause-shown

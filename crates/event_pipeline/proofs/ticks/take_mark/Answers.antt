@@ -5,7 +5,7 @@ use Rattle.cep_event.specs.declared.record.Moment.TheVariants.{At}
 use Rattle.cep_plan.specs.declared.plan.Plan.{Plan}
 use Rattle.cep_plan.specs.Skipping.{list_in}
 use Rattle.cep_plan.specs.Tick.{mark_tick}
-use Rattle.cep_engine.specs.Standing.{kept_at}
+use Rattle.cep_plan.specs.Keys.{kept_at}
 use Rattle.cep_engine.specs.State.{StandsFor}
 use Rattle.event_pipeline.specs.declared.outputs.TellFault.TheVariants.{NoMemory}
 use Rattle.sharing_laws.specs.Sizes.{sizes_after, sizes_from}
@@ -21,7 +21,8 @@ tick_taken-requires-clause-few g c = subst (λ (p : Plan). length p.stages ≤ 6
 pub tick_taken-requires-clause-short : goal.tick_taken-requires-clause-short
 tick_taken-requires-clause-short g c =
     let ticks = c.requires.stands.0 in
-    subst (All (λ item. length (list_in item) < 2 ^ 32)) (sym ((c.in_ok-items.ensures.taken ticks c.requires.stands.1).1 ∙ ap (λ t. kept_at c.args.engine.now.plan ticks (mark_tick (At t))) (to_z-of_z c.ranges.time)))
+    subst (All (λ item. length (list_in item) < 2 ^ 32)) (sym ((c.in_ok-items.ensures.taken ticks c.requires.stands.1).1
+    ∙ ap (λ t. kept_at c.args.engine.now.plan ticks (mark_tick (At t))) (to_z-of_z c.ranges.time)))
     (mark-short c.args.engine.now.plan ticks (At c.args.time) c.args.engine.now c.requires.stands.1 c.requires.room)
 
 pub returns-clause-taken : goal.returns-clause-taken
@@ -37,7 +38,8 @@ returns-clause-taken g c = λ ticks stands.
 pub returns-in_err-items-clause-taken : goal.returns-in_err-items-clause-taken
 returns-in_err-items-clause-taken g c = λ ticks stands.
     let p = err_from_is_err_and c.from_residual.result c.from_residual.ensures.1 in
-    takes-none (g.O.Outputs.tells c.args.engine.now.plan) (g.O.Outputs.stops c.args.engine.now.plan) c.args.engine.now.plan ticks (mark_tick (At c.args.time) ∷ []) c.mark_items.new.engine (c.args.outputs.now, c.args.to.now) c.from_residual.result
+    takes-none (g.O.Outputs.tells c.args.engine.now.plan) (g.O.Outputs.stops c.args.engine.now.plan) c.args.engine.now.plan ticks
+    (mark_tick (At c.args.time) ∷ []) c.mark_items.new.engine (c.args.outputs.now, c.args.to.now) c.from_residual.result
     (p.1 ∙ ap (λ e. Err e) (p.2 ∙ same-fault c.in_err-items.field-0.0 NoMemory c.in_err-items.ensures.fault))
 
 pub returns-clause-shown : goal.returns-clause-shown

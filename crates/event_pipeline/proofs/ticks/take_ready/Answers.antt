@@ -72,8 +72,10 @@ loop-event-preserved g c =
           let i = held.taken ticks stands in (
             i.0 ++ event ∷ [],
             i.1 ∙ ap (λ r. i.0 ++ r) now ∙ sym (append_assoc i.0 (event ∷ []) (ready next)),
-            subst (λ more. HasTaken (g.O.Outputs.tells first.plan) first.plan ticks more c.take_event.new.engine (c.args.outputs.now, c.args.to.now) (c.take_event.new.outputs, c.take_event.new.to)) (sym (map-push event_tick i.0 event))
-                (one-more g.O.Outputs.tells g.O.Outputs.stops last.plan first.plan held.plan ticks (map event_tick i.0) (event_tick event ∷ []) last c.take_event.new.engine (c.args.outputs.now, c.args.to.now) (c.loop-event.outputs, c.loop-event.to)
+            subst (λ more. HasTaken (g.O.Outputs.tells first.plan) first.plan ticks more c.take_event.new.engine (c.args.outputs.now, c.args.to.now)
+                (c.take_event.new.outputs, c.take_event.new.to)) (sym (map-push event_tick i.0 event))
+                (one-more g.O.Outputs.tells g.O.Outputs.stops last.plan first.plan held.plan ticks (map event_tick i.0)
+                (event_tick event ∷ []) last c.take_event.new.engine (c.args.outputs.now, c.args.to.now) (c.loop-event.outputs, c.loop-event.to)
                 (c.take_event.new.outputs, c.take_event.new.to) (Ok c.in_ok-held.held) i.2 (fed.taken (ticks ++ map event_tick i.0) i.2.stands)),
             subst (λ more. Shows (g.G.Gauge.seen c.args.gauge.now) (g.G.Gauge.seen c.take_event.new.gauge) (sizes_from first.plan ticks more)
                 (Ok c.greater-greatest.result)) (sym (map-push event_tick i.0 event))
@@ -94,7 +96,8 @@ returns-in_err-held-clause-taken g c = λ ticks stands.
     let held = c.loop-event.invariant in
     let i = held.taken ticks stands in
     let p = err_from_is_err_and c.from_residual.result c.from_residual.ensures.1 in
-    rw (p.1, p.2) (ready-cut g.O.Outputs.tells g.O.Outputs.stops last.plan first.plan held.plan ticks i.0 (ready next) (ready c.args.order.now) event last c.take_event.new.engine (c.args.outputs.now, c.args.to.now) (c.loop-event.outputs, c.loop-event.to)
+    rw (p.1, p.2) (ready-cut g.O.Outputs.tells g.O.Outputs.stops last.plan first.plan held.plan ticks i.0 (ready next)
+    (ready c.args.order.now) event last c.take_event.new.engine (c.args.outputs.now, c.args.to.now) (c.loop-event.outputs, c.loop-event.to)
     (c.take_event.new.outputs, c.take_event.new.to) c.in_err-held.field-0.0 (i.1 ∙ ap (λ r. i.0 ++ r) now) i.2
     (c.in_err-held.ensures.taken (ticks ++ map event_tick i.0) i.2.stands))
 

@@ -1,16 +1,15 @@
-use Rattle.std.proofs.Common.{◌∙◌, rules, w64, SFits, to_z-of_z}
-use Rattle.run_judge.proofs.KeptLaws.{survives-kept, takes-kept}
+use Rattle.std.proofs.Common.{sym, subst, rules, w64, SFits, to_z-of_z}
+use Rattle.run_judge.specs.Fate.{IsKeptOf}
 use Rattle.run_judge.proofs.gap.judged_list.Goals as goal
 
 pub returns-clause-taken : goal.returns-clause-taken
 returns-clause-taken c = λ list is.
     let fits : SFits w64 c.args.start_ts = search rules in
-    c.is_taken-taken.ensures list is.sums_stand
-    ∙ takes-kept c.args.plan.now c.args.event.now list c.args.sums.now c.args.last c.args.start_ts is c.args.stage c.args.position
-    c.is_wanted-candidate.result (c.is_wanted-candidate.ensures list is.sums_stand) _ (to_z-of_z fits)
+    c.judged_where.ensures.taken list (subst (IsKeptOf c.args.plan.now c.args.event.now list c.args.sums.now c.args.last) (sym (to_z-of_z fits)) is)
+    (c.is_wanted-candidate.ensures list is.sums_stand)
 
 pub returns-clause-lives : goal.returns-clause-lives
 returns-clause-lives c = λ list is.
-    c.lives_on-lives.ensures list is.sums_stand
-    ∙ survives-kept c.args.plan.now c.args.event.now list c.args.sums.now c.args.last c.args.start_ts is c.args.stage c.args.position
-    c.is_wanted-candidate.result (c.is_wanted-candidate.ensures list is.sums_stand)
+    let fits : SFits w64 c.args.start_ts = search rules in
+    c.judged_where.ensures.lives list (subst (IsKeptOf c.args.plan.now c.args.event.now list c.args.sums.now c.args.last) (sym (to_z-of_z fits)) is)
+    (c.is_wanted-candidate.ensures list is.sums_stand)

@@ -3,7 +3,7 @@ use Rattle.std.specs.List.{list_any}
 use Rattle.std.proofs.lemmas.List.{take_all}
 use Rattle.cep_plan.specs.declared.plan.Negation.{Negation}
 use Rattle.cep_plan.specs.Candidate.{satisfies, is_between}
-use Rattle.run_judge.proofs.AloneLaws.{any-more}
+use Rattle.cond_ready.proofs.AloneLaws.{any-more}
 use Rattle.run_judge.proofs.untouched.has_no_bar.Goals as goal
 
 refuted : (kind between met : Bool) → (between && met) ≡ false → (kind && between && met) ≡ false

@@ -11,6 +11,6 @@ invariant-loop-place l = record {
   sized : length l.runs.items ≡ length l.initial.runs.items;
   rest : drop l.place l.runs.items ≡ drop l.place l.initial.runs.items;
   order : IsOrdered l.initial.runs.items → IsOrdered l.runs.items;
-  passed : (events : List Event) (waiters : List Waiter) → CanPassGroup l.plan events l.position l.stage waiters l.nfa l.initial.runs.items
-      → GroupPassed l.plan events l.event l.stage (take l.place waiters) (take l.place l.runs.items) l.initial.passing l.passing;
+  passed : (events : List Event) (waiters : List Waiter) → CanPassGroup l.plan events l.position l.at.stage waiters l.nfa l.initial.runs.items
+      → GroupPassed l.plan events l.event l.at.stage (take l.place waiters) (take l.place l.runs.items) l.initial.passing l.passing;
 }

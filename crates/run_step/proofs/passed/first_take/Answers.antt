@@ -29,14 +29,15 @@ after-requires c = let some = c.requires in
     first_room c.args.plan.now some.events c.args.position c.args.waits.now c.args.number some.stage c.args.bump c.args.empty.now some.can
 
 pub returns : goal.returns
-returns c = λ events stage can.
+returns c = λ events stage can known.
     let plan = c.args.plan.now in
     let fits : SFits w64 c.args.event.now.ts = search rules in
     let within = first_within plan events c.args.position c.args.waits.now c.args.number stage c.args.bump c.args.empty.now can in
     let got = got_at c.args.waits.now c.args.number c.index-waits-number.result within c.index-waits-number.is in
-    first_is plan events c.args.position c.args.waits.now c.args.number stage c.args.bump c.args.empty.now can c.args.event.now
+    first_is plan events c.args.position c.args.waits.now c.args.number stage c.args.bump c.args.empty.now can known c.args.event.now
     c.index-waits-number.result got _
     refl refl refl
     (c.in_ok-label_after.ensures
     ∙ ap (λ (v : List ℕ). label_after c.args.waits.now c.args.number c.index-waits-number.result v 0 c.args.bump) c.empty-version.ensures)
-    c.digit_after.ensures refl (to_z-of_z fits) refl c.in_ok-after.ensures.asked c.in_ok-after.ensures.stands
+    c.digit_after.ensures refl (to_z-of_z fits)
+    (λ i. record { stage = c.index-waits-number.result.stage; position = c.args.position; ts = to_z-of_z fits i }) c.in_ok-after.ensures.asked c.in_ok-after.ensures.stands

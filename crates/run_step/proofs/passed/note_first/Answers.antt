@@ -1,4 +1,6 @@
-use Rattle.std.proofs.Common.{arith, rules, ◌<◌, ◌^◌}
+use Rattle.std.proofs.Common.{sym, ◌∙◌, arith, rules, ◌<◌, ◌^◌}
+use Rattle.run_step.specs.Noting.{first_waiter}
+use Rattle.run_step.proofs.SumsLaws.{taken_inside}
 use Rattle.run_step.proofs.FirstLaws.{first_bump, first_none, first_one, first_waits}
 use Rattle.run_step.proofs.passed.note_first.Goals as goal
 
@@ -29,4 +31,5 @@ returns c = λ events stage can is.
     first_one plan events c.args.position c.args.waits.now c.args.number stage c.args.bump c.args.empty.now can c.args.event.now
     (first_waits plan events c.args.position c.args.waits.now c.args.number stage c.args.bump c.args.empty.now can) c.args.taken is
     c.if-not-taken.false c.args.takes.now.items c.push.new.self.items c.in_ok-noted.noted
-    (c.in_ok-noted.ensures events stage can) c.in_ok-push.ensures.items
+    (c.in_ok-noted.ensures events stage can
+    (taken_inside plan events c.args.event.now (first_waiter stage) (sym is ∙ c.if-not-taken.false))) c.in_ok-push.ensures.items

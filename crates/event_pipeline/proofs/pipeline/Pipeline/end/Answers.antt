@@ -44,7 +44,8 @@ returns-clause-told g c = λ lag plan records h.
     let taken = e.taken (ticks_of lag records) h.ticked in
     subst (λ p. Tells (g.O.Outputs.tells p) (g.O.Outputs.stops p) (c.args.outputs.now, c.args.to.now) (c.finish.new.outputs, c.finish.new.to)
     (told_at_end lag p records) (Ok c.in_ok-greatest.greatest)) h.planned
-    (ended-at g.O.Outputs.tells g.O.Outputs.stops c.take_ready.new.engine.plan c.args.self.engine.plan e.plan lag records order _ (c.end.ensures.hands lag (arrivals_of lag records) h.ordered)
+    (ended-at g.O.Outputs.tells g.O.Outputs.stops c.take_ready.new.engine.plan c.args.self.engine.plan e.plan lag records order _
+    (c.end.ensures.hands lag (arrivals_of lag records) h.ordered)
     (c.args.outputs.now, c.args.to.now) (c.take_ready.new.outputs, c.take_ready.new.to) (c.finish.new.outputs, c.finish.new.to) (Ok tt) taken.told
     (c.in_ok-finish.ensures (ticks_of lag records ++ map event_tick (ready order)) taken.stands))
 
@@ -70,7 +71,8 @@ returns-in_err-greatest-clause-told g c = λ lag plan records h.
     let p = err_from_is_err_and c.from_residual.result c.from_residual.ensures.1 in
     rw (p.1, p.2) (subst (λ q. StopsAmong (g.O.Outputs.tells q) (g.O.Outputs.stops q) c.in_err-greatest.field-0.0 (c.args.outputs.now, c.args.to.now)
     (c.take_ready.new.outputs, c.take_ready.new.to) (told_at_end lag q records)) h.planned
-    (ended-cut (g.O.Outputs.tells c.args.self.engine.plan) (g.O.Outputs.stops c.args.self.engine.plan) c.args.self.engine.plan lag records order _ (c.end.ensures.hands lag (arrivals_of lag records) h.ordered)
+    (ended-cut (g.O.Outputs.tells c.args.self.engine.plan) (g.O.Outputs.stops c.args.self.engine.plan) c.args.self.engine.plan lag records order _
+    (c.end.ensures.hands lag (arrivals_of lag records) h.ordered)
     (c.args.outputs.now, c.args.to.now) (c.take_ready.new.outputs, c.take_ready.new.to) c.in_err-greatest.field-0.0
     (c.in_err-greatest.ensures.taken (ticks_of lag records) h.ticked)))
 

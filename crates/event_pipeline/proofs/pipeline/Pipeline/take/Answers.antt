@@ -19,7 +19,8 @@ take_record-requires-clause-stands g c = (_, c.requires.3.ticked)
 
 pub returns-clause-handled : goal.returns-clause-handled
 returns-clause-handled g c = λ lag plan records h.
-    handles g.O.Outputs.tells g.O.Outputs.stops lag plan records c.args.next c.args.self.now _ (c.args.outputs.now, c.args.to.now) (c.take_record.new.outputs, c.take_record.new.to) c.take_record.result h
+    handles g.O.Outputs.tells g.O.Outputs.stops lag plan records c.args.next c.args.self.now _ (c.args.outputs.now, c.args.to.now)
+    (c.take_record.new.outputs, c.take_record.new.to) c.take_record.result h
     c.take_record.ensures.plan c.take_record.ensures.running c.take_record.ensures.grown (c.take_record.ensures.gone lag records h.ordered h.ticked)
 
 pub returns-clause-shown : goal.returns-clause-shown

@@ -2,6 +2,7 @@ use Rattle.std.proofs.Common.{◌≡◌, sym, ◌∙◌, ap, subst, rules, ◌�
 use Rattle.std.proofs.lemmas.List.{take-append-drop}
 use Rattle.cep_event.specs.declared.event.Event.{Event}
 use Rattle.live_laws.specs.Survival.{survives, takes}
+use Rattle.run_judge.specs.Offer.{Offer}
 use Rattle.run_step.specs.declared.runs.Run.{Run}
 use Rattle.run_step.specs.Content.{Grouped, staged, IsOrdered}
 use Rattle.run_step.specs.Runs.{Waiter, AreRunsOf}
@@ -18,22 +19,25 @@ returns-then-is_empty-clause-passed c = λ events waiters can.
 
 pub returns-then-is_untouched-clause-passed : goal.returns-then-is_untouched-clause-passed
 returns-then-is_untouched-clause-passed c = λ events waiters can.
-    let named = ap (λ (v : Grouped). v.stage) c.self.view_is in
+    let offered : c.stage_at-at.result ≡ record { plan = c.args.plan.now; stage = c.args.self.now.stage; event = c.args.event.now } =
+    c.stage_at-at.ensures ∙ ap (λ (v : Grouped). record { plan = c.args.plan.now; stage = v.stage; event = c.args.event.now }) c.self.view_is in
     passed_all c.args.plan.now events c.args.event.now c.args.self.now.stage waiters c.args.self.now.runs can.waiting can.runs_are
-    (λ list position. ap (λ s. takes c.args.plan.now list s c.args.event.now position) (sym named)
+    (λ list position. sym (ap (λ (o : Offer). takes o.plan list o.stage o.event position) offered)
     ∙ c.is_untouched.ensures.taken c.if-is_untouched.true list position)
-    (λ list position. ap (λ s. survives c.args.plan.now list s c.args.event.now position) (sym named)
+    (λ list position. sym (ap (λ (o : Offer). survives o.plan list o.stage o.event position) offered)
     ∙ c.is_untouched.ensures.lives c.if-is_untouched.true list position)
     c.args.passing.now
 
-pub pass_tail-requires : goal.pass_tail-requires
-pass_tail-requires c =
-    let some = subst (λ (v : Grouped). CanPassGroupSome c.args.plan.now c.args.position v.stage c.args.nfa.now v.runs) (sym c.self.view_is) c.requires in
+pub pass_tail-requires-clause-can : goal.pass_tail-requires-clause-can
+pass_tail-requires-clause-can c =
+    let view : record { stage = c.stage_at-at.result.stage; runs = c.self.inside.runs.items } ≡ c.args.self.now =
+    ap (λ (o : Offer). record { stage = o.stage; runs = c.self.inside.runs.items }) c.stage_at-at.ensures ∙ c.self.view_is in
+    let some = subst (λ (v : Grouped). CanPassGroupSome c.args.plan.now c.args.position v.stage c.args.nfa.now v.runs) (sym view) c.requires in
     record {
       events = some.events;
       waiters = drop c.in_ok-kept.kept some.waiters;
       can =
-          tail_can c.args.plan.now some.events c.args.event.now c.self.inside.stage c.args.position c.args.nfa.now some.waiters
+          tail_can c.args.plan.now some.events c.args.event.now c.stage_at-at.result.stage c.args.position c.args.nfa.now some.waiters
           c.self.inside.runs.items some.can c.in_ok-kept.kept c.in_ok-tail.tail.items (c.in_ok-tail.ensures.tail ∙ c.in_ok-kept.ensures.rest);
     }
 
@@ -49,29 +53,33 @@ invariant_of-self-in_err-pass_tail c =
 
 pub returns-in_ok-pass_tail-clause-passed : goal.returns-in_ok-pass_tail-clause-passed
 returns-in_ok-pass_tail-clause-passed c =
+    let view : record { stage = c.stage_at-at.result.stage; runs = c.self.inside.runs.items } ≡ c.args.self.now =
+    ap (λ (o : Offer). record { stage = o.stage; runs = c.self.inside.runs.items }) c.stage_at-at.ensures ∙ c.self.view_is in
     subst (λ (v : Grouped). (events : List Event) (waiters : List Waiter)
     → CanPassGroup c.args.plan.now events c.args.position v.stage waiters c.args.nfa.now v.runs
     → GroupPassed c.args.plan.now events c.args.event.now v.stage waiters c.pass_tail.new.runs.items c.args.passing.now c.pass_tail.new.passing)
-    c.self.view_is
+    view
     (λ events waiters can.
-    both_parts c.args.plan.now events c.args.event.now c.self.inside.stage c.args.position c.args.nfa.now waiters c.self.inside.runs.items can
+    both_parts c.args.plan.now events c.args.event.now c.stage_at-at.result.stage c.args.position c.args.nfa.now waiters c.self.inside.runs.items can
     c.in_ok-kept.kept c.pass_front.new.runs.items c.pass_tail.new.runs.items c.args.passing.now c.pass_front.new.passing c.pass_tail.new.passing
     (c.in_ok-kept.ensures.front events waiters can)
     (λ front are.
     c.in_ok-pass_tail.ensures.passed events (drop c.in_ok-kept.kept waiters) front
-    (tail_can c.args.plan.now events c.args.event.now c.self.inside.stage c.args.position c.args.nfa.now waiters c.self.inside.runs.items can
+    (tail_can c.args.plan.now events c.args.event.now c.stage_at-at.result.stage c.args.position c.args.nfa.now waiters c.self.inside.runs.items can
     c.in_ok-kept.kept c.in_ok-tail.tail.items (c.in_ok-tail.ensures.tail ∙ c.in_ok-kept.ensures.rest))
-    (subst (λ (rs : List Run). AreRunsOf c.args.plan.now (events ++ c.args.event.now ∷ []) front (map (staged c.self.inside.stage) rs))
+    (subst (λ (rs : List Run). AreRunsOf c.args.plan.now (events ++ c.args.event.now ∷ []) front (map (staged c.stage_at-at.result.stage) rs))
     (sym c.in_ok-tail.ensures.items) are)))
 
 pub returns-else-kept-len-clause-passed : goal.returns-else-kept-len-clause-passed
 returns-else-kept-len-clause-passed c =
+    let view : record { stage = c.stage_at-at.result.stage; runs = c.self.inside.runs.items } ≡ c.args.self.now =
+    ap (λ (o : Offer). record { stage = o.stage; runs = c.self.inside.runs.items }) c.stage_at-at.ensures ∙ c.self.view_is in
     let all : length c.pass_front.new.runs.items ≤ c.in_ok-kept.kept = search rules in
     subst (λ (v : Grouped). (events : List Event) (waiters : List Waiter)
     → CanPassGroup c.args.plan.now events c.args.position v.stage waiters c.args.nfa.now v.runs
     → GroupPassed c.args.plan.now events c.args.event.now v.stage waiters c.pass_front.new.runs.items c.args.passing.now
-    c.pass_front.new.passing) c.self.view_is
+    c.pass_front.new.passing) view
     (λ events waiters can.
-    whole_front c.args.plan.now events c.args.event.now c.self.inside.stage c.args.position c.args.nfa.now waiters c.self.inside.runs.items can
+    whole_front c.args.plan.now events c.args.event.now c.stage_at-at.result.stage c.args.position c.args.nfa.now waiters c.self.inside.runs.items can
     c.in_ok-kept.kept c.pass_front.new.runs.items c.in_ok-kept.ensures.within.1 all c.args.passing.now c.pass_front.new.passing
     (c.in_ok-kept.ensures.front events waiters can))

@@ -1,0 +1,14 @@
+use Rattle.std.proofs.Common.{rules, arith}
+use Rattle.std.specs.List.{Contains}
+use Rattle.std.proofs.lemmas.Grind.{common_steps}
+use Rattle.cond_eval.specs.Asked.{questions_of}
+use Rattle.cond_eval.proofs.QuestionLaws.{can-one}
+use Rattle.cond_ready.proofs.rests.with_parts.Goals as goal
+
+pub loop-part-preserved : goal.loop-part-preserved
+loop-part-preserved c = record {
+  asks = λ qs first asks. c.in-Some.ensures.asks qs (c.loop-part.invariant.asks qs first asks)
+      (can-one (Contains qs) (λ part. questions_of part.expr) c.args.others.now c.loop-part.part-index c.part-item.result c.loop-part-test.true
+      c.part-item.is asks);
+  holds = first_of (search rules, grind (arith, common_steps));
+}

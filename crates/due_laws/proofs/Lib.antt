@@ -1,0 +1,4 @@
+pub mod DueLaws
+pub mod ToldLaws
+pub mod OpenLaws
+pub mod GroupLaws

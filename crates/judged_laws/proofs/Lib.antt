@@ -1,0 +1,4 @@
+pub mod ListLaws
+pub mod GivenLaws
+pub mod FoundLaws
+pub mod OnceLaws
