@@ -1,8 +1,9 @@
 -- At which tick a match is given, told by the match alone: no other list is asked about. (This project's own.)
-use Rattle.std.specs.Prelude.{ℕ, ◌+◌, ◌≡◌, Bool, true, false, ◌&&◌, nat_lt, if◌then◌else◌, List, [], ◌∷◌, ◌++◌, length, Option}
+use Rattle.std.specs.Prelude.{ℕ, ◌+◌, ◌≡◌, Bool, true, false, ◌&&◌, nat_lt, if◌then◌else◌, List, [], ◌∷◌, ◌++◌, length, Option, Some, ◌⊎◌}
 use Rattle.std.specs.List.{list_any}
 use Rattle.std.specs.Option.{option_map_or}
 use Rattle.cep_event.specs.declared.event.Event.{Event}
+use Rattle.cep_event.specs.declared.record.Moment.TheVariants.{End}
 use Rattle.cep_event.specs.declared.value.Value.{Value}
 use Rattle.cep_plan.specs.declared.plan.Plan.{Plan}
 use Rattle.cep_plan.specs.Entry.{Entry, taken_of, last_entry, stages_of}
@@ -55,3 +56,14 @@ abbrev pub GivenOnce : Type 0
 GivenOnce = (plan : Plan) (before : List Tick) (tick : Tick) (between : List Tick) (again : Tick)
     → NeverFall [] (before ++ tick ∷ between ++ again ∷ []) → (events : List Event) (list : List Entry)
     → is_given plan events list before tick ≡ true → is_given plan events list (before ++ tick ∷ between) again ≡ false
+
+-- one of the ticks gives the list
+abbrev pub IsGivenIn : Plan → List Event → List Entry → List Tick → List Tick → Type 0
+IsGivenIn plan events list before [] = ⊥
+IsGivenIn plan events list before (tick ∷ later) =
+    (is_given plan events list before tick ≡ true) ⊎ IsGivenIn plan events list (before ++ tick ∷ []) later
+
+-- Where the limit between neighbours isn't 0, some tick gives each match: the end does where no other has.
+abbrev pub GivenByEnd : Type 0
+GivenByEnd = (plan : Plan) (ticks : List Tick) → (plan.within_gap ≡ Some 0 → ⊥) → (list : List Entry) → is_match plan (events_of ticks) list ≡ true
+    → IsGivenIn plan (events_of ticks) list [] (ticks ++ mark_tick End ∷ [])

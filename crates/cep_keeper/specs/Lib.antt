@@ -1,0 +1,9 @@
+pub mod Contents
+pub mod Counted
+pub mod Restored
+pub mod Rows
+pub mod Rules
+pub mod Said
+pub mod Standing
+pub mod Stored
+pub mod Tallies
